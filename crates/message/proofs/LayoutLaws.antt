@@ -1,0 +1,119 @@
+-- Laws of a right layout: no value is empty; the values stand in order without gap, and the last runs to the end; an element without a value
+-- has no entry. Assumes nothing.
+use Prim.Native.Nat.{ℕ, zero, suc, _+_, _-_, _<_, _≤_}
+use mathlib.Core.Path.{_≡_, refl, sym, ap, _∙_}
+use mathlib.Core.Bool.{Bool, true, false}
+use mathlib.Core.List.{List, [], _++_, append-nil}
+use native.Mathlib.Omega.{arith}
+use native.Mathlib.Nat.{zero-add}
+use native.Mathlib.Numerals.{add-one}
+use lib.Dec.{ltb, leb, eqb}
+use lib.ListN.{length, getD, take, drop, length-take, length-drop, take-append-drop}
+use lib.Seq.{take-all, drop-drop}
+use borrow.Author.Tests.{ltb-true, lt-ltb, le-ltb, eqb-true, eq-eqb, ne-eqb}
+use Rattle.octets.specs.Choice.{choose, both}
+use Rattle.octets.specs.Search.{firstFrom, all}
+use Rattle.octets.proofs.ChoiceLaws.{both-first, both-second}
+use Rattle.octets.proofs.SearchLaws.{all-at, first-le, from-start}
+use Rattle.message.specs.Layout.{countSize, count, codeAt, offsetAt, headerSize, entryRight, layoutRight}
+use Rattle.message.specs.Values.{entryFrom, endOf, valueAt, value, valuesFrom}
+
+module _ (longest most : ℕ) (known : List Bool) (m : List ℕ) (right : layoutRight longest most known m ≡ true) where
+  -- every entry is right
+  entries : (k : ℕ) → k < count m → entryRight known m k ≡ true
+  unfolding layoutRight
+  entries k h =
+      let z : count m ≡ 0 → ⊥ = omega arith in
+      let r : choose (eqb (count m) 0) (eqb (length m) countSize) (all (entryRight known m) (count m)) ≡ true =
+      both-second (leb (count m) most) _ (both-second (leb (length m) longest) _ (both-second (leb countSize (length m)) _ right)) in
+      rw zero-add at (all-at (entryRight known m) 0 (count m) k h (rw (ne-eqb _ _ z) at r))
+
+  -- an offset lies below the length
+  pub offset-inside : (k : ℕ) → k < count m → offsetAt m k < length m
+  unfolding entryRight
+  offset-inside k h = ltb-true (offsetAt m k) (length m) (both-first (ltb (offsetAt m k) (length m)) _ (both-second (getD known (codeAt m k) false) _ (entries k h)))
+
+  -- the first one is the header's size
+  pub offset-first : 0 < count m → offsetAt m 0 ≡ headerSize m
+  unfolding entryRight
+  offset-first h = eqb-true (offsetAt m 0) (headerSize m) (both-second (ltb (offsetAt m 0) (length m)) _ (both-second (getD known (codeAt m 0) false) _ (entries 0 h)))
+
+  -- codes and offsets rise
+  rises : (k : ℕ) → k + 1 < count m → both (ltb (codeAt m k) (codeAt m (k + 1))) (ltb (offsetAt m k) (offsetAt m (k + 1))) ≡ true
+  unfolding entryRight
+  rises k h =
+      let z : k + 1 ≡ 0 → ⊥ = omega arith in
+      let p : k + 1 - 1 ≡ k = omega arith in
+      let r : choose (eqb (k + 1) 0) (eqb (offsetAt m (k + 1)) (headerSize m)) (both (ltb (codeAt m (k + 1 - 1)) (codeAt m (k + 1))) (ltb (offsetAt m (k + 1 - 1)) (offsetAt m (k + 1)))) ≡ true =
+      both-second (ltb (offsetAt m (k + 1)) (length m)) _ (both-second (getD known (codeAt m (k + 1)) false) _ (entries (k + 1) h)) in
+      rw (ne-eqb _ _ z, p) at r
+
+  pub code-rises : (k : ℕ) → k + 1 < count m → codeAt m k < codeAt m (k + 1)
+  code-rises k h = ltb-true (codeAt m k) (codeAt m (k + 1)) (both-first (ltb (codeAt m k) (codeAt m (k + 1))) _ (rises k h))
+
+  pub offset-rises : (k : ℕ) → k + 1 < count m → offsetAt m k < offsetAt m (k + 1)
+  offset-rises k h = ltb-true (offsetAt m k) (offsetAt m (k + 1)) (both-second (ltb (codeAt m k) (codeAt m (k + 1))) _ (rises k h))
+
+  -- a value ends after it starts, and within the message
+  value-runs : (k : ℕ) → k < count m → (offsetAt m k < endOf m k) × (endOf m k ≤ length m)
+  unfolding endOf
+  value-runs k h = go (ltb (k + 1) (count m)) refl
+    where
+      go : (t : Bool) → ltb (k + 1) (count m) ≡ t → (offsetAt m k < choose t (offsetAt m (k + 1)) (length m)) × (choose t (offsetAt m (k + 1)) (length m) ≤ length m)
+      go true e =
+          let l = offset-inside (k + 1) (ltb-true _ _ e) in
+          (offset-rises k (ltb-true _ _ e), omega arith)
+      go false e = (offset-inside k h, omega arith)
+
+  -- no value is empty
+  pub value-filled : (k : ℕ) → k < count m → 0 < length (valueAt m k)
+  unfolding valueAt
+  value-filled k h =
+      let r = value-runs k h in
+      rw (lt-ltb _ _ h) (omega (arith, length-take (endOf m k - offsetAt m k) (drop (offsetAt m k) m), length-drop (offsetAt m k) m))
+
+  -- the values from entry k on are the rest of the message from its offset on
+  values-rest : (d k : ℕ) → k + suc d ≡ count m → valuesFrom m k (suc d) ≡ drop (offsetAt m k) m
+  unfolding valuesFrom valueAt endOf
+  values-rest zero k e =
+      let here : k < count m = omega arith in
+      let last : count m ≤ k + 1 = omega arith in
+      rw (lt-ltb _ _ here, le-ltb _ _ last)
+      (append-nil _ ∙ take-all (length m - offsetAt m k) (drop (offsetAt m k) m) (omega (arith, length-drop (offsetAt m k) m)))
+  values-rest (suc d) k e =
+      let here : k < count m = omega arith in
+      let more : k + 1 < count m = omega arith in
+      let o = offset-rises k more in
+      let gap : ℕ = offsetAt m (k + 1) - offsetAt m k in
+      let step : offsetAt m k + gap ≡ offsetAt m (k + 1) = omega arith in
+      let rest : valuesFrom m (k + 1) (suc d) ≡ drop gap (drop (offsetAt m k) m) =
+      values-rest d (k + 1) (omega arith) ∙ ap (λ (j : ℕ). drop j m) (sym step) ∙ sym (drop-drop gap (offsetAt m k) m) in
+      rw (lt-ltb _ _ here, lt-ltb _ _ more, ← add-one k, rest) (take-append-drop gap (drop (offsetAt m k) m))
+
+  -- a message without entries is its count
+  count-alone : count m ≡ 0 → length m ≡ countSize
+  unfolding layoutRight
+  count-alone z =
+      let r : choose (eqb (count m) 0) (eqb (length m) countSize) (all (entryRight known m) (count m)) ≡ true =
+      both-second (leb (count m) most) _ (both-second (leb (length m) longest) _ (both-second (leb countSize (length m)) _ right)) in
+      eqb-true (length m) countSize (rw (eq-eqb _ _ z) at r)
+
+  -- the message is its header and then its values, in order, without gap, up to the end
+  pub values-whole : take (headerSize m) m ++ valuesFrom m 0 (count m) ≡ m
+  unfolding valuesFrom
+  values-whole = go (count m) refl
+    where
+      go : (n : ℕ) → count m ≡ n → take (headerSize m) m ++ valuesFrom m 0 n ≡ m
+      go zero e =
+          let l = count-alone e in
+          append-nil _ ∙ take-all (headerSize m) m (omega arith)
+      go (suc d) e = rw (values-rest d 0 (omega arith), offset-first (omega arith)) (take-append-drop (headerSize m) m)
+
+  -- an element without a value has no entry
+  pub missing : (code : ℕ) → value code m ≡ [] → (k : ℕ) → k < count m → codeAt m k ≡ code → ⊥
+  unfolding value entryFrom
+  missing code e k h p =
+      let f : ℕ → Bool = λ j. eqb (codeAt m j) code in
+      let l : firstFrom f 0 (count m - 0) ≤ 0 + k = rw from-start (first-le f 0 (count m) k h (rw zero-add (eq-eqb _ _ p))) in
+      let filled : 0 < length (value code m) = value-filled (firstFrom f 0 (count m - 0)) (omega arith) in
+      omega (arith, ap length e)

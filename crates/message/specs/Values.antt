@@ -1,0 +1,30 @@
+-- Document 01, 'The message': the value of an element.
+use Prim.Native.Nat.{ℕ, zero, suc, _+_, _-_}
+use mathlib.Core.List.{List, [], _++_}
+use lib.ListN.{length}
+use lib.Dec.{ltb, eqb}
+use Rattle.octets.specs.Choice.{choose}
+use Rattle.octets.specs.Search.{firstFrom}
+use Rattle.octets.specs.Part.{part}
+use Rattle.message.specs.Layout.{count, codeAt, offsetAt}
+
+-- the first entry from `from` on with a code; where there is none, n, or `from` if that is past n
+unfoldable pub entryFrom : List ℕ → ℕ → ℕ → ℕ
+entryFrom m code from = firstFrom (λ k. eqb (codeAt m k) code) from (count m - from)
+
+-- a value runs to the next offset, the last one to the end
+unfoldable pub endOf : List ℕ → ℕ → ℕ
+endOf m k = choose (ltb (k + 1) (count m)) (offsetAt m (k + 1)) (length m)
+
+-- the value of entry k, nothing where there is no such entry
+unfoldable pub valueAt : List ℕ → ℕ → List ℕ
+valueAt m k = choose (ltb k (count m)) (part m (offsetAt m k) (endOf m k - offsetAt m k)) []
+
+-- the value of the element with a code, nothing where the element is missing
+unfoldable pub value : ℕ → List ℕ → List ℕ
+value code m = valueAt m (entryFrom m code 0)
+
+-- the values of the d entries from k on, one after the other
+unfoldable pub valuesFrom : List ℕ → ℕ → ℕ → List ℕ
+valuesFrom m k zero = []
+valuesFrom m k (suc d) = valueAt m k ++ valuesFrom m (suc k) d

@@ -1,0 +1,6 @@
+pub mod ChoiceLaws
+pub mod SearchLaws
+pub mod PartLaws
+pub mod SameLaws
+pub mod NumberLaws
+pub mod WriteLaws

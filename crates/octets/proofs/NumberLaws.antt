@@ -1,0 +1,57 @@
+-- Laws of specs/Number.antt. Assumes nothing.
+use mathlib.Core.Path.{_≡_, refl, sym, ap, _∙_}
+use mathlib.Core.List.{List, [], _∷_, _++_, append-assoc}
+use Prim.Native.Nat.{ℕ, zero, suc, _+_, _-_, _*_, _/_, _%_, _^_, _≤_, _<_}
+use native.Mathlib.Nat.{pow-le-pow-right, pow-suc, not-suc-le-zero, div-lt-iff-lt-mul}
+use native.Mathlib.Numerals.{add-one}
+use native.Mathlib.Omega.{arith}
+use lib.ListN.{length, take, drop, set, length-append}
+use lib.Seq.{set-split, drop-at, length-take-le}
+use lib.Arith.{digits-lt}
+use Rattle.octets.specs.Number.{fromLe, toLe, digits}
+
+-- ---- little-endian
+
+-- one byte more in front, at every width; up to eight bytes fit 64 bits
+pub byte-more : (n v b : ℕ) → v < 256 ^ n → b < 256 → v * 256 + b < 256 ^ suc n
+byte-more n v b h l = rw pow-suc (digits-lt h l)
+
+pub byte-fits : (n v b : ℕ) → n ≤ 7 → v < 256 ^ n → b < 256 → v * 256 + b < 2 ^ 64
+byte-fits n v b k h l =
+    let top : 256 ^ n ≤ 256 ^ 7 = pow-le-pow-right (omega arith) k in
+    omega arith
+
+pub length-toLe : (n v : ℕ) → length (toLe n v) ≡ n
+unfolding toLe
+length-toLe zero v = refl
+length-toLe (suc n) v = ap suc (length-toLe n _)
+
+-- what was written is read back, at every width
+pub fromLe-toLe : (n v : ℕ) → v < 256 ^ n → fromLe (toLe n v) ≡ v
+unfolding toLe fromLe
+fromLe-toLe zero v h = omega arith
+fromLe-toLe (suc n) v h =
+    let l : v / 256 < 256 ^ n = div-lt-iff-lt-mul {k = 256} (omega arith) .1 (rw pow-suc at h) in
+    rw (fromLe-toLe n (v / 256) l) (omega arith)
+
+-- ---- decimal digits
+
+pub length-digits : (n v : ℕ) → length (digits n v) ≡ n
+unfolding digits
+length-digits zero v = refl
+length-digits (suc n) v = length-append (digits n (v / 10)) ((v % 10 + 48) ∷ []) ∙ rw (length-digits n (v / 10)) (add-one n)
+
+-- one digit more, written before those that stand from i on
+digit-at : (j v : ℕ) (l : List ℕ) → j < length l → digits (suc j) v ++ drop (suc j) l ≡ digits j (v / 10) ++ drop j (set l j (v % 10 + 48))
+unfolding digits
+digit-at j v l h =
+    let d : ℕ = v % 10 + 48 in
+    let k : length (take j l) ≡ j = length-take-le j l (omega arith) in
+    append-assoc (digits j (v / 10)) (d ∷ []) (drop (suc j) l)
+    ∙ ap (λ (r : List ℕ). digits j (v / 10) ++ r) (sym (drop-at (take j l) (d ∷ drop (suc j) l) j k) ∙ ap (drop j) (sym (set-split l j d h)))
+
+pub digit-more : (i v : ℕ) (l : List ℕ) → 0 < i → i ≤ length l → digits i v ++ drop i l ≡ digits (i - 1) (v / 10) ++ drop (i - 1) (set l (i - 1) (v % 10 + 48))
+digit-more zero v l p h = absurd (not-suc-le-zero p)
+digit-more (suc j) v l p h =
+    let e : suc j - 1 ≡ j = omega arith in
+    rw e (digit-at j v l h)

@@ -1,0 +1,83 @@
+-- Laws of specs/Part.antt: what a part and a splice have, and what a lent part is. Assumes nothing.
+use mathlib.Core.Path.{_≡_, refl, sym, ap, _∙_}
+use mathlib.Core.List.{List, _++_, append-assoc, append-nil}
+use Prim.Native.Nat.{ℕ, _+_, _-_, _≤_}
+use native.Mathlib.Nat.{zero-add, add-assoc, add-sub-cancel-left}
+use native.Mathlib.Omega.{arith}
+use lib.ListN.{length, take, drop, length-append, length-take, length-drop, drop-of-length-le, take-append-drop}
+use lib.Seq.{length-take-le, drop-drop, take-at, drop-at, take-append-le, drop-append-le}
+use Rattle.octets.specs.Part.{part, splice}
+
+-- ---- lengths
+
+pub length-part : (xs : List ℕ) (at n : ℕ) → at + n ≤ length xs → length (part xs at n) ≡ n
+length-part xs at n h = length-take-le n (drop at xs) (simp length-drop (omega arith))
+
+pub length-splice : (d ys : List ℕ) (at : ℕ) → at + length ys ≤ length d → length (splice d at ys) ≡ length d
+unfolding splice
+length-splice d ys at h = simp (length-append, length-take, length-drop) (omega arith)
+
+-- ---- what the borrow checker gives of a part that is lent from `at` on, n bytes long
+
+pub lent-length : (xs : List ℕ) (at n : ℕ) → at + n ≤ length xs → length (take (at + n - at) (drop at xs)) ≡ n
+lent-length xs at n h = rw add-sub-cancel-left (length-part xs at n h)
+
+-- it came back as ys
+pub lent-back : (d l ys : List ℕ) (at n : ℕ) → l ≡ ys → length ys ≡ n → take at d ++ (l ++ drop (at + n - at) (drop at d)) ≡ splice d at ys
+unfolding splice
+lent-back d l ys at n e f = rw (e, add-sub-cancel-left, drop-drop, ← f)
+
+-- ---- a part of bytes in which ys took the place of others, from `at` on
+
+module _ (d ys : List ℕ) (at : ℕ) (h : at + length ys ≤ length d) where
+  head-length : length (take at d) ≡ at
+  head-length = length-take-le at d (omega arith)
+
+  front-length : length (take at d ++ ys) ≡ at + length ys
+  front-length = rw (length-append, head-length)
+
+  -- at its place
+  pub part-at : part (splice d at ys) at (length ys) ≡ ys
+  unfolding splice
+  part-at = rw (drop-at (take at d) (ys ++ drop (at + length ys) d) at head-length) (take-at ys (drop (at + length ys) d) (length ys) refl)
+
+  -- before it
+  pub part-before : (from n : ℕ) → from + n ≤ at → part (splice d at ys) from n ≡ part d from n
+  unfolding splice
+  part-before from n l =
+      let e : drop from (take at d ++ (ys ++ drop (at + length ys) d)) ≡ drop from (take at d) ++ (ys ++ drop (at + length ys) d) = drop-append-le from (take at d) _ (omega (arith, head-length)) in
+      let k : n ≤ length (drop from (take at d)) = simp length-drop (omega (arith, head-length)) in
+      let whole : d ≡ take at d ++ drop at d = sym (take-append-drop at d) in
+      let e′ : drop from (take at d ++ drop at d) ≡ drop from (take at d) ++ drop at d = drop-append-le from (take at d) (drop at d) (omega (arith, head-length)) in
+      rw e (take-append-le n (drop from (take at d)) _ k ∙ sym (take-append-le n (drop from (take at d)) (drop at d) k) ∙ ap (take n) (sym e′) ∙ ap (λ (l : List ℕ). take n (drop from l)) (sym whole))
+
+  -- after it
+  pub part-after : (from n : ℕ) → at + length ys ≤ from → part (splice d at ys) from n ≡ part d from n
+  unfolding splice
+  part-after from n l =
+      let k : at + length ys + (from - (at + length ys)) ≡ from = omega arith in
+      let a : take at d ++ (ys ++ drop (at + length ys) d) ≡ (take at d ++ ys) ++ drop (at + length ys) d = sym (append-assoc (take at d) ys (drop (at + length ys) d)) in
+      let e : drop from ((take at d ++ ys) ++ drop (at + length ys) d) ≡ drop from d =
+      ap (λ (j : ℕ). drop j ((take at d ++ ys) ++ drop (at + length ys) d)) (sym k)
+      ∙ sym (drop-drop (from - (at + length ys)) (at + length ys) _)
+      ∙ ap (drop (from - (at + length ys))) (drop-at (take at d ++ ys) (drop (at + length ys) d) (at + length ys) front-length)
+      ∙ drop-drop (from - (at + length ys)) (at + length ys) d
+      ∙ ap (λ (j : ℕ). drop j d) k in
+      rw a (ap (take n) e)
+
+-- ---- a write right after another is one write
+
+pub splice-splice : (d ys zs : List ℕ) (at : ℕ) → at + (length ys + length zs) ≤ length d → splice (splice d at ys) (at + length ys) zs ≡ splice d at (ys ++ zs)
+unfolding splice
+splice-splice d ys zs at h =
+    let n : length (take at d ++ ys) ≡ at + length ys = front-length d ys at (omega arith) in
+    let a : take at d ++ (ys ++ drop (at + length ys) d) ≡ (take at d ++ ys) ++ drop (at + length ys) d = sym (append-assoc (take at d) ys (drop (at + length ys) d)) in
+    let one : take (at + length ys) (take at d ++ (ys ++ drop (at + length ys) d)) ≡ take at d ++ ys = rw a (take-at (take at d ++ ys) (drop (at + length ys) d) (at + length ys) n) in
+    let two : drop (at + length ys + length zs) (take at d ++ (ys ++ drop (at + length ys) d)) ≡ drop (at + length (ys ++ zs)) d =
+    rw (a, ← drop-drop (length zs) (at + length ys), drop-at (take at d ++ ys) (drop (at + length ys) d) (at + length ys) n, drop-drop, length-append, add-assoc) in
+    rw (one, two) (simp append-assoc)
+
+-- a splice of the whole
+pub splice-all : (d ys : List ℕ) → length ys ≡ length d → splice d 0 ys ≡ ys
+unfolding splice
+splice-all d ys e = rw (zero-add, drop-of-length-le d {i = length ys} (omega arith)) (append-nil ys)

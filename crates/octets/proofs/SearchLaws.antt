@@ -1,0 +1,81 @@
+-- Laws of specs/Search.antt, for a loop that counts up from 0 to n. Assumes nothing.
+use Prim.Native.Nat.{ℕ, zero, suc, _+_, _-_, _<_, _≤_}
+use native.Mathlib.Numerals.{add-one}
+use native.Mathlib.Nat.{add-zero, not-suc-le-zero, le-of-suc-le-suc}
+use native.Mathlib.Omega.{arith}
+use mathlib.Core.Bool.{Bool, true, false}
+use mathlib.Core.Path.{_≡_, refl}
+use Rattle.octets.specs.Choice.{choose}
+use Rattle.octets.specs.Search.{firstFrom, allFrom}
+use Rattle.octets.proofs.ChoiceLaws.{both-first, both-second}
+
+left : (k n : ℕ) → k < n → n - k ≡ suc (n - (k + 1))
+left k n h = omega arith
+
+-- a turn of the loop at k
+module _ (f : ℕ → Bool) (k n : ℕ) (h : k < n) where
+  pub first-more : f k ≡ false → firstFrom f k (n - k) ≡ firstFrom f (k + 1) (n - (k + 1))
+  unfolding firstFrom
+  first-more e = rw (left k n h, e, ← add-one k)
+
+  pub first-stop : f k ≡ true → firstFrom f k (n - k) ≡ k
+  unfolding firstFrom
+  first-stop e = rw (left k n h, e)
+
+  pub all-more : f k ≡ true → allFrom f k (n - k) ≡ allFrom f (k + 1) (n - (k + 1))
+  unfolding allFrom
+  all-more e = rw (left k n h, e, ← add-one k)
+
+  pub all-stop : f k ≡ false → allFrom f k (n - k) ≡ false
+  unfolding allFrom
+  all-stop e = rw (left k n h, e)
+
+-- the loop's end and its start
+module _ (f : ℕ → Bool) (k n : ℕ) (h : n ≤ k) where
+  none-left : n - k ≡ 0
+  none-left = omega arith
+
+  pub first-end : firstFrom f k (n - k) ≡ k
+  unfolding firstFrom
+  first-end = rw none-left
+
+  pub all-end : allFrom f k (n - k) ≡ true
+  unfolding allFrom
+  all-end = rw none-left
+
+pub from-start : (n : ℕ) → n - 0 ≡ n
+from-start n = omega arith
+
+-- what a test of a range tells of a number in it
+pub all-at : (f : ℕ → Bool) (k d i : ℕ) → i < d → allFrom f k d ≡ true → f (k + i) ≡ true
+unfolding allFrom
+all-at f k zero i h e = absurd (not-suc-le-zero h)
+all-at f k (suc d) zero h e = rw (add-zero k) (both-first (f k) (allFrom f (suc k) d) e)
+all-at f k (suc d) (suc i) h e =
+    let p : suc k + i ≡ k + suc i = omega arith in
+    rw p at (all-at f (suc k) d i (le-of-suc-le-suc h) (both-second (f k) (allFrom f (suc k) d) e))
+
+-- the first number that passes f passes f, and is in the range or just past it
+pub first-passes : (f : ℕ → Bool) (k d : ℕ) → firstFrom f k d < k + d → f (firstFrom f k d) ≡ true
+unfolding firstFrom
+first-passes f k zero h = absurd (omega arith)
+first-passes f k (suc d) h = go (f k) refl h (first-passes f (suc k) d)
+  where
+    go : (t : Bool) → f k ≡ t → choose t k (firstFrom f (suc k) d) < k + suc d → (firstFrom f (suc k) d < suc k + d → f (firstFrom f (suc k) d) ≡ true) → f (choose t k (firstFrom f (suc k) d)) ≡ true
+    go true e h' ih = e
+    go false e h' ih = ih (omega arith)
+
+-- a number that passes f is not before the first one
+pub first-le : (f : ℕ → Bool) (k d i : ℕ) → i < d → f (k + i) ≡ true → firstFrom f k d ≤ k + i
+unfolding firstFrom
+first-le f k zero i h e = absurd (not-suc-le-zero h)
+first-le f k (suc d) zero h e =
+    let p : f k ≡ true = rw (add-zero k) at e in
+    rw p (omega arith)
+first-le f k (suc d) (suc i) h e =
+    let p : k + suc i ≡ suc k + i = omega arith in
+    go (f k) (first-le f (suc k) d i (le-of-suc-le-suc h) (rw p at e))
+  where
+    go : (t : Bool) → firstFrom f (suc k) d ≤ suc k + i → choose t k (firstFrom f (suc k) d) ≤ k + suc i
+    go true l = omega arith
+    go false l = omega arith

@@ -1,0 +1,6 @@
+pub mod Choice
+pub mod Search
+pub mod Part
+pub mod Text
+pub mod Same
+pub mod Number

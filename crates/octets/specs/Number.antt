@@ -1,0 +1,18 @@
+-- Numbers in bytes: little-endian, and as decimal digits.
+use Prim.Native.Nat.{ℕ, zero, suc, _+_, _*_, _/_, _%_}
+use mathlib.Core.List.{List, [], _∷_, _++_}
+
+-- the number that bytes stand for, the lowest first
+unfoldable pub fromLe : List ℕ → ℕ
+fromLe [] = zero
+fromLe (b ∷ bs) = fromLe bs * 256 + b
+
+-- the n lowest bytes of v, the lowest first
+unfoldable pub toLe : ℕ → ℕ → List ℕ
+toLe zero v = []
+toLe (suc n) v = v % 256 ∷ toLe n (v / 256)
+
+-- the last n decimal digits of v, zero padded, as text (48 is '0')
+unfoldable pub digits : ℕ → ℕ → List ℕ
+digits zero v = []
+digits (suc n) v = digits n (v / 10) ++ ((v % 10 + 48) ∷ [])

@@ -1,0 +1,172 @@
+// Bytes: parts of a slice, numbers in bytes, copying, filling and comparing, decimal digits.
+// A function on a whole slice has the loop; the one with `_at` lends it the part that is meant.
+ghost use mathlib.Core.Path.{_≡_};
+ghost use Prim.Native.Nat.{_+_, _*_, _^_, _<_, _≤_};
+ghost use lib.ListN.{length, getD, replicate};
+ghost use Rattle.octets.specs.Part.{part, splice, PartOf};
+ghost use Rattle.octets.specs.Same.{sameBytes, placeAmong};
+ghost use Rattle.octets.specs.Number.{fromLe, toLe, digits};
+
+// The byte at i; past the end there are zeros.
+pub fn byte_at(s: &[u8], i: usize) -> usize
+    ensures { λ r. ⌜ (r ≡ getD (now (s .entry)) i 0) × (r < 256) ⌝ }
+{
+    if i < s.len() {
+        return s[i] as usize;
+    }
+    0
+}
+
+// The n bytes from `at` on, as far as there are any: a part of the slice itself.
+pub fn part_of<'a>(s: &'a [u8], at: usize, n: usize) -> &'a [u8]
+    ensures { λ r. ⌜ (now r ≡ part (now (s .entry)) at n) × PartOf (s .entry) r ⌝ }
+{
+    if s.len() < at {
+        return &s[..0];
+    }
+    if s.len() - at <= n {
+        return &s[at..];
+    }
+    let end = at + n;
+    &s[at..end]
+}
+
+// Whether a and b hold the same bytes, compared from the last one.
+pub fn same(a: &[u8], b: &[u8]) -> bool
+    ensures { λ r. ⌜ r ≡ sameBytes (now (a .entry)) (now (b .entry)) ⌝ }
+{
+    if a.len() != b.len() {
+        return false;
+    }
+    let mut i = a.len();
+    while 0 < i {
+        i -= 1;
+        if a[i] != b[i] {
+            return false;
+        }
+    }
+    true
+}
+
+// The place of the first of `count` codes, each `width` bytes wide, that is the value; `count` where none is.
+pub fn place_in(v: &[u8], codes: &[u8], width: usize, count: usize) -> usize
+    requires { ⌜ count * width ≤ length (now codes) ⌝ }
+    ensures { λ r. ⌜ r ≡ placeAmong width count (now (codes .entry)) (now (v .entry)) ⌝ }
+{
+    let mut k = 0;
+    while k < count {
+        if same(v, part_of(codes, k * width, width)) {
+            return k;
+        }
+        k += 1;
+    }
+    k
+}
+
+// Copies src into dst, which is as long.
+pub fn copy(dst: &mut [u8], src: &[u8])
+    requires { ⌜ length (now src) ≡ length (now dst) ⌝ }
+    ensures { λ _. ⌜ now (dst .exit) ≡ now (src .entry) ⌝ }
+{
+    let mut i = 0;
+    while i < src.len() {
+        dst[i] = src[i];
+        i += 1;
+    }
+}
+
+// Fills dst with b.
+pub fn fill(dst: &mut [u8], b: u8)
+    ensures { λ _. ⌜ now (dst .exit) ≡ replicate (length (now (dst .entry))) b ⌝ }
+{
+    let mut i = 0;
+    while i < dst.len() {
+        dst[i] = b;
+        i += 1;
+    }
+}
+
+// The number that the bytes of s stand for, at every width up to 8.
+pub fn read_le(s: &[u8]) -> u64
+    requires { ⌜ length (now s) ≤ 8 ⌝ }
+    ensures { λ r. ⌜ (r ≡ fromLe (now (s .entry))) × (r < 256 ^ length (now (s .entry))) ⌝ }
+{
+    let mut v: u64 = 0;
+    let mut i = s.len();
+    while 0 < i {
+        i -= 1;
+        let b = s[i] as u64;
+        v = v * 256 + b;
+    }
+    v
+}
+
+// Writes the lowest bytes of v, as many as dst has.
+pub fn write_le(dst: &mut [u8], v: u64)
+    ensures { λ _. ⌜ now (dst .exit) ≡ toLe (length (now (dst .entry))) v ⌝ }
+{
+    let mut rest = v;
+    let mut i = 0;
+    while i < dst.len() {
+        dst[i] = (rest % 256) as u8;
+        rest = rest / 256;
+        i += 1;
+    }
+}
+
+// Writes the last decimal digits of v, as many as dst has.
+pub fn write_digits(dst: &mut [u8], v: u64)
+    ensures { λ _. ⌜ now (dst .exit) ≡ digits (length (now (dst .entry))) v ⌝ }
+{
+    let mut rest = v;
+    let mut i = dst.len();
+    while 0 < i {
+        i -= 1;
+        dst[i] = (rest % 10 + 48) as u8;
+        rest = rest / 10;
+    }
+}
+
+// The number that the n bytes from `at` on stand for; past the end there are zeros.
+pub fn read_at(s: &[u8], at: usize, n: usize) -> u64
+    requires { ⌜ n ≤ 8 ⌝ }
+    ensures { λ r. ⌜ (r ≡ fromLe (part (now (s .entry)) at n)) × (r < 256 ^ n) ⌝ }
+{
+    read_le(part_of(s, at, n))
+}
+
+// Copies src into dst from `at` on.
+pub fn copy_at(dst: &mut [u8], at: usize, src: &[u8])
+    requires { ⌜ at + length (now src) ≤ length (now dst) ⌝ }
+    ensures { λ _. ⌜ now (dst .exit) ≡ splice (now (dst .entry)) at (now (src .entry)) ⌝ }
+{
+    let end = at + src.len();
+    copy(&mut dst[at..end], src);
+}
+
+// Writes n times the byte b from `at` on.
+pub fn fill_at(dst: &mut [u8], at: usize, n: usize, b: u8)
+    requires { ⌜ at + n ≤ length (now dst) ⌝ }
+    ensures { λ _. ⌜ now (dst .exit) ≡ splice (now (dst .entry)) at (replicate n b) ⌝ }
+{
+    let end = at + n;
+    fill(&mut dst[at..end], b);
+}
+
+// Writes the n lowest bytes of v from `at` on.
+pub fn write_at(dst: &mut [u8], at: usize, n: usize, v: u64)
+    requires { ⌜ at + n ≤ length (now dst) ⌝ }
+    ensures { λ _. ⌜ now (dst .exit) ≡ splice (now (dst .entry)) at (toLe n v) ⌝ }
+{
+    let end = at + n;
+    write_le(&mut dst[at..end], v);
+}
+
+// Writes the last n decimal digits of v from `at` on.
+pub fn digits_at(dst: &mut [u8], at: usize, n: usize, v: u64)
+    requires { ⌜ at + n ≤ length (now dst) ⌝ }
+    ensures { λ _. ⌜ now (dst .exit) ≡ splice (now (dst .entry)) at (digits n v) ⌝ }
+{
+    let end = at + n;
+    write_digits(&mut dst[at..end], v);
+}
