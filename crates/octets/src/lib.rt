@@ -8,11 +8,11 @@ ghost use Rattle.octets.specs.Same.{sameBytes, placeAmong};
 ghost use Rattle.octets.specs.Number.{fromLe, toLe, digits};
 
 // The byte at i; past the end there are zeros.
-pub fn byte_at(s: &[u8], i: usize) -> usize
-    ensures { λ r. ⌜ (r ≡ getD (now (s .entry)) i 0) × (r < 256) ⌝ }
+pub fn byte_at(s: &[u8], i: usize) -> u8
+    ensures { λ r. ⌜ r ≡ getD (now (s .entry)) i 0 ⌝ }
 {
     if i < s.len() {
-        return s[i] as usize;
+        return s[i];
     }
     0
 }

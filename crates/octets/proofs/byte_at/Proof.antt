@@ -1,20 +1,13 @@
 -- `octets::byte_at` meets its contract. Assumes nothing.
 use borrow.Author.Needs.{needs}
 use denote.Ref.{now}
-use mathlib.Core.Path.{refl, sym}
-use native.Mathlib.Omega.{arith}
+use mathlib.Core.Path.{sym}
 use lib.ListN.{List·getD-eq-default}
 use Rattle.octets.proofs.byte_at.Statement.{statement}
 use Rattle.octets.proofs.byte_at.Tie as tie
 
-cast-result : tie.Need-cast-result
-cast-result c = omega (arith, c .shared-slice-known .given (c .before .before .args .i))
-
-returns : tie.Need-returns
-returns c = (refl, omega (arith, c .shared-slice-known .given (c .before .before .args .i)))
-
 returns-2 : tie.Need-returns-2
-returns-2 c = (sym (List·getD-eq-default (now (c .before .args .s)) 0 (c .if1 .left)), search needs)
+returns-2 c = sym (List·getD-eq-default (now (c .before .args .s)) 0 (c .if1 .left))
 
 pub byte-at-spec : {M : Type 1} → statement M
-byte-at-spec = tie.close (tie.spec (λ c. search needs) cast-result returns returns-2)
+byte-at-spec = tie.close (tie.spec (λ c. search needs) (λ c. search needs) returns-2)

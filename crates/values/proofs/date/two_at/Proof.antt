@@ -1,0 +1,14 @@
+-- `values::date::two_at` meets its contract. Assumes nothing.
+use Rattle.values.specs.Date.{two}
+use borrow.Author.Needs.{needs}
+use Rattle.values.proofs.date.two_at.Statement.{statement}
+use Rattle.values.proofs.date.two_at.Tie as tie
+
+returns : tie.Need-returns
+unfolding two
+returns c = search needs
+
+pub two-at-spec : {M : Type 1} → statement M
+two-at-spec =
+    tie.close
+    (tie.spec (λ c κs. search needs) (λ c. search needs) (λ c. search needs) (λ c κs. search needs) (λ c. search needs) returns)

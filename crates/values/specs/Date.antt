@@ -1,0 +1,52 @@
+-- Document 01, 'Elements': dates, YYYY-MM-DD, and times, YYYY-MM-DDThh:mm:ssZ.
+use Prim.Native.Nat.{ℕ, _+_, _-_, _*_, _%_}
+use Prim.Native.Char.{code}
+use mathlib.Core.Bool.{Bool, not}
+use mathlib.Core.List.{List}
+use lib.ListN.{length, getD}
+use lib.Dec.{ltb, leb, eqb}
+use Rattle.octets.specs.Choice.{choose, both, either}
+use Rattle.octets.specs.Search.{all}
+use Rattle.octets.specs.Text.{text}
+use Rattle.values.specs.Limits.{firstYear}
+use Rattle.values.specs.Run.{within, inClass}
+use Rattle.values.specs.declared.run.Class.the-variants.{Digit}
+
+-- a byte fits a place of a pattern, in which 0 stands for any digit and any other byte for itself
+abbrev pub fitsByte : ℕ → ℕ → Bool
+fitsByte p b = choose (eqb p (code "0")) (inClass Digit b) (eqb b p)
+
+abbrev pub fitsAt : List ℕ → List ℕ → ℕ → Bool
+fitsAt p v k = fitsByte (getD p k 0) (getD v k 0)
+
+unfoldable pub fits : List ℕ → List ℕ → Bool
+fits p v = both (eqb (length v) (length p)) (all (fitsAt p v) (length v))
+
+-- the number of the two digits from i on
+unfoldable pub two : List ℕ → ℕ → ℕ
+two v i = (getD v i 0 - code "0") * 10 + (getD v (i + 1) 0 - code "0")
+
+unfoldable pub leap : ℕ → Bool
+leap y = either (eqb (y % 400) 0) (both (eqb (y % 4) 0) (not (eqb (y % 100) 0)))
+
+unfoldable pub daysIn : ℕ → ℕ → ℕ
+daysIn y m =
+    choose (eqb m 2) (choose (leap y) 29 28)
+    (choose (either (eqb m 4) (either (eqb m 6) (either (eqb m 9) (eqb m 11)))) 30 31)
+
+-- year, month and day are a Gregorian date, from 1900 on
+unfoldable pub gregorian : ℕ → ℕ → ℕ → Bool
+gregorian y m d = both (leb firstYear y) (both (within 1 12 m) (within 1 (daysIn y m) d))
+
+-- the first ten bytes name a date
+unfoldable pub namesDate : List ℕ → Bool
+namesDate v = gregorian (two v 0 * 100 + two v 2) (two v 5) (two v 8)
+
+unfoldable pub isDate : List ℕ → Bool
+isDate v = both (fits (text "0000-00-00") v) (namesDate v)
+
+-- hours 00 to 23, minutes and seconds 00 to 59
+unfoldable pub isTime : List ℕ → Bool
+isTime v =
+    both (fits (text "0000-00-00T00:00:00Z") v)
+    (both (namesDate v) (both (ltb (two v 11) 24) (both (ltb (two v 14) 60) (ltb (two v 17) 60))))

@@ -1,0 +1,26 @@
+-- Document 01, 'Elements': legal entity identifiers (ISO 17442).
+use Prim.Native.Nat.{ℕ, _+_, _-_, _*_, _%_}
+use Prim.Native.Char.{code}
+use mathlib.Core.Bool.{Bool}
+use mathlib.Core.List.{List, [], _∷_}
+use lib.ListN.{take, drop}
+use lib.Dec.{eqb}
+use Rattle.octets.specs.Choice.{choose, both}
+use Rattle.values.specs.Limits.{leiBody, leiCheck, leiModulus}
+use Rattle.values.specs.Run.{inClass, runOf}
+use Rattle.values.specs.declared.run.Class.the-variants.{Digit, Capital, CapitalOrDigit}
+
+-- a number read on by one character: A to Z are read as 10 to 35, two digits; any other character is one digit
+unfoldable pub grow : ℕ → ℕ → ℕ
+grow n b = choose (inClass Capital b) (n * 100 + 10 + (b - code "A")) (n * 10 + (b - code "0"))
+
+-- the whole number that a text spells, read on from n
+unfoldable pub spell : ℕ → List ℕ → ℕ
+spell n [] = n
+spell n (b ∷ v) = spell (grow n b) v
+
+-- 18 capitals or digits, then two digits, and the whole number leaves 1 when divided by 97
+unfoldable pub isLei : List ℕ → Bool
+isLei v =
+    both (runOf leiBody leiBody CapitalOrDigit (take leiBody v))
+    (both (runOf leiCheck leiCheck Digit (drop leiBody v)) (eqb (spell 0 v % leiModulus) 1))

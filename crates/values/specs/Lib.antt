@@ -1,0 +1,6 @@
+pub mod Limits
+pub mod Run
+pub mod Code
+pub mod Number
+pub mod Date
+pub mod Lei

@@ -1,0 +1,49 @@
+-- Document 01, 'Elements': values that are a number of characters of one class.
+use Prim.Native.Nat.{ℕ}
+use Prim.Native.Char.{Char, code}
+use mathlib.Core.Bool.{Bool}
+use mathlib.Core.List.{List}
+use lib.ListN.{length, getD}
+use lib.Dec.{leb}
+use Rattle.octets.specs.Choice.{both, either}
+use Rattle.octets.specs.Search.{all}
+use Rattle.values.specs.Limits.{utiLeast, utiMost, eventSize, packageMost, currencySize, locationSize}
+use Rattle.values.specs.declared.run.Class.{Class}
+use Rattle.values.specs.declared.run.Class.the-variants.{Digit, Capital, CapitalOrDigit, LetterOrDigit}
+
+abbrev pub within : ℕ → ℕ → ℕ → Bool
+within lo hi n = both (leb lo n) (leb n hi)
+
+-- a byte is one of the characters from lo to hi
+abbrev pub between : Char → Char → ℕ → Bool
+between lo hi b = within (code lo) (code hi) b
+
+abbrev pub inClass : Class → ℕ → Bool
+inClass Digit b = between "0" "9" b
+inClass Capital b = between "A" "Z" b
+inClass CapitalOrDigit b = either (between "A" "Z" b) (between "0" "9" b)
+inClass LetterOrDigit b = either (between "a" "z" b) (either (between "A" "Z" b) (between "0" "9" b))
+
+-- at least `least` and at most `most` bytes, each of the class
+unfoldable pub runOf : ℕ → ℕ → Class → List ℕ → Bool
+runOf least most class v = both (leb least (length v)) (both (leb (length v) most) (all (λ k. inClass class (getD v k 0)) (length v)))
+
+-- code 1: 21 to 52 capitals or digits
+abbrev pub isUti : List ℕ → Bool
+isUti v = runOf utiLeast utiMost CapitalOrDigit v
+
+-- code 3: 4 capitals
+abbrev pub isEvent : List ℕ → Bool
+isEvent v = runOf eventSize eventSize Capital v
+
+-- code 16: 1 to 100 letters or digits
+abbrev pub isPackageIdentifier : List ℕ → Bool
+isPackageIdentifier v = runOf 1 packageMost LetterOrDigit v
+
+-- codes 19 and 21: 3 capitals
+abbrev pub isCurrency : List ℕ → Bool
+isCurrency v = runOf currencySize currencySize Capital v
+
+-- code 22: 2 capitals
+abbrev pub isLocation : List ℕ → Bool
+isLocation v = runOf locationSize locationSize Capital v

@@ -1,0 +1,28 @@
+// The numbers of the forms, as specs/Limits.antt has them.
+pub const UTI_LEAST: usize = 21;
+
+pub const UTI_MOST: usize = 52;
+
+pub const EVENT_SIZE: usize = 4;
+
+pub const PACKAGE_MOST: usize = 100;
+
+pub const CURRENCY_SIZE: usize = 3;
+
+pub const LOCATION_SIZE: usize = 2;
+
+pub const PRICE_DIGITS: usize = 18;
+
+pub const PRICE_DECIMALS: usize = 13;
+
+pub const NOTIONAL_DIGITS: usize = 25;
+
+pub const NOTIONAL_DECIMALS: usize = 5;
+
+pub const FIRST_YEAR: usize = 1900;
+
+pub const LEI_BODY: usize = 18;
+
+pub const LEI_CHECK: usize = 2;
+
+pub const LEI_MODULUS: u64 = 97;
