@@ -6,7 +6,7 @@ use octets::place_in;
 use octets::same;
 
 // The value is a code of four bytes.
-fn is(v: &[u8], code: &[u8; 4]) -> bool
+pub fn is_code(v: &[u8], code: &[u8; 4]) -> bool
     ensures { λ r. ⌜ r ≡ sameBytes (now (v .entry)) (now (code .entry)) ⌝ }
 {
     same(v, code)
@@ -48,13 +48,13 @@ pub fn is_cleared(v: &[u8]) -> bool
 pub fn is_allocation(v: &[u8]) -> bool
     ensures { λ r. ⌜ r ≡ isAllocation (now (v .entry)) ⌝ }
 {
-    if is(v, b"POST") {
+    if is_code(v, b"POST") {
         return true;
     }
-    if is(v, b"PREA") {
+    if is_code(v, b"PREA") {
         return true;
     }
-    is(v, b"UNAL")
+    is_code(v, b"UNAL")
 }
 
 pub fn is_notation(v: &[u8]) -> bool

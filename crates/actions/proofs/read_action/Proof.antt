@@ -1,0 +1,121 @@
+-- `actions::read_action` meets its contract. Where the first k codes are passed, the rest of the table decides. Assumes nothing.
+use borrow.Author.Needs.{needs}
+use Prim.Native.Nat.{ℕ}
+use mathlib.Core.Path.{_≡_, sym, _∙_}
+use mathlib.Core.List.{List}
+use lib.Dec.{lit<}
+use lib.ListN.{drop}
+use denote.Ref.{now}
+use Rattle.octets.specs.Text.{text}
+use Rattle.octets.specs.Same.{beside}
+use Rattle.octets.proofs.SameLaws.{beside-is, beside-not}
+use Rattle.actions.specs.Actions.{actionCode, actionCodes, actionOf}
+use Rattle.actions.specs.declared.ActionRead.{ActionRead}
+use Rattle.actions.specs.declared.ActionRead.the-variants.{Fault}
+use Rattle.actions.proofs.read_action.Statement.{statement}
+use Rattle.actions.proofs.read_action.Tie as tie
+
+rest : ℕ → List ℕ → ActionRead
+rest k v = beside (drop k actionCodes) (Fault actionCode) v
+
+-- the value, at each place
+abbrev v1 : tie.Else1 → List ℕ
+v1 c = now (c .before .before .before .before .args .v)
+
+abbrev v2 : tie.Else2 → List ℕ
+v2 c = v1 (c .before .before .before)
+
+abbrev v3 : tie.Else3 → List ℕ
+v3 c = v2 (c .before .before .before)
+
+abbrev v4 : tie.Else4 → List ℕ
+v4 c = v3 (c .before .before .before)
+
+abbrev v5 : tie.Else5 → List ℕ
+v5 c = v4 (c .before .before .before)
+
+abbrev v6 : tie.Else6 → List ℕ
+v6 c = v5 (c .before .before .before)
+
+abbrev v7 : tie.Else7 → List ℕ
+v7 c = v6 (c .before .before .before)
+
+passed1 : (c : tie.Else1) → actionOf (v1 c) ≡ rest 1 (v1 c)
+unfolding actionOf rest text
+passed1 c = beside-not actionCodes (Fault actionCode) 0 (lit< tt) _ _ (c .before .is-code .ensures) (c .if1 .left)
+
+passed2 : (c : tie.Else2) → actionOf (v2 c) ≡ rest 2 (v2 c)
+unfolding actionOf rest text
+passed2 c = passed1 (c .before .before .before) ∙ beside-not actionCodes (Fault actionCode) 1 (lit< tt) _ _ (c .before .is-code2 .ensures) (c .if2 .left)
+
+passed3 : (c : tie.Else3) → actionOf (v3 c) ≡ rest 3 (v3 c)
+unfolding actionOf rest text
+passed3 c = passed2 (c .before .before .before) ∙ beside-not actionCodes (Fault actionCode) 2 (lit< tt) _ _ (c .before .is-code3 .ensures) (c .if3 .left)
+
+passed4 : (c : tie.Else4) → actionOf (v4 c) ≡ rest 4 (v4 c)
+unfolding actionOf rest text
+passed4 c = passed3 (c .before .before .before) ∙ beside-not actionCodes (Fault actionCode) 3 (lit< tt) _ _ (c .before .is-code4 .ensures) (c .if4 .left)
+
+passed5 : (c : tie.Else5) → actionOf (v5 c) ≡ rest 5 (v5 c)
+unfolding actionOf rest text
+passed5 c = passed4 (c .before .before .before) ∙ beside-not actionCodes (Fault actionCode) 4 (lit< tt) _ _ (c .before .is-code5 .ensures) (c .if5 .left)
+
+passed6 : (c : tie.Else6) → actionOf (v6 c) ≡ rest 6 (v6 c)
+unfolding actionOf rest text
+passed6 c = passed5 (c .before .before .before) ∙ beside-not actionCodes (Fault actionCode) 5 (lit< tt) _ _ (c .before .is-code6 .ensures) (c .if6 .left)
+
+passed7 : (c : tie.Else7) → actionOf (v7 c) ≡ rest 7 (v7 c)
+unfolding actionOf rest text
+passed7 c = passed6 (c .before .before .before) ∙ beside-not actionCodes (Fault actionCode) 6 (lit< tt) _ _ (c .before .is-code7 .ensures) (c .if7 .left)
+
+returns : tie.Need-returns
+unfolding actionOf rest text beside
+returns c = beside-is actionCodes (Fault actionCode) 0 (lit< tt) _ _ (c .before .is-code .ensures) (c .if1 .taken)
+
+returns-2 : tie.Need-returns-2
+unfolding actionOf rest text beside
+returns-2 c = beside-is actionCodes (Fault actionCode) 1 (lit< tt) _ _ (c .before .is-code2 .ensures) (c .if2 .taken) ∙ sym (passed1 (c .before .before .before))
+
+returns-3 : tie.Need-returns-3
+unfolding actionOf rest text beside
+returns-3 c = beside-is actionCodes (Fault actionCode) 2 (lit< tt) _ _ (c .before .is-code3 .ensures) (c .if3 .taken) ∙ sym (passed2 (c .before .before .before))
+
+returns-4 : tie.Need-returns-4
+unfolding actionOf rest text beside
+returns-4 c = beside-is actionCodes (Fault actionCode) 3 (lit< tt) _ _ (c .before .is-code4 .ensures) (c .if4 .taken) ∙ sym (passed3 (c .before .before .before))
+
+returns-5 : tie.Need-returns-5
+unfolding actionOf rest text beside
+returns-5 c = beside-is actionCodes (Fault actionCode) 4 (lit< tt) _ _ (c .before .is-code5 .ensures) (c .if5 .taken) ∙ sym (passed4 (c .before .before .before))
+
+returns-6 : tie.Need-returns-6
+unfolding actionOf rest text beside
+returns-6 c = beside-is actionCodes (Fault actionCode) 5 (lit< tt) _ _ (c .before .is-code6 .ensures) (c .if6 .taken) ∙ sym (passed5 (c .before .before .before))
+
+returns-7 : tie.Need-returns-7
+unfolding actionOf rest text beside
+returns-7 c = beside-is actionCodes (Fault actionCode) 6 (lit< tt) _ _ (c .before .is-code7 .ensures) (c .if7 .taken) ∙ sym (passed6 (c .before .before .before))
+
+returns-8 : tie.Need-returns-8
+unfolding actionOf rest text beside
+returns-8 c = sym (passed7 c)
+
+pub read-action-spec : {M : Type 1} → statement M
+read-action-spec =
+    tie.close
+    (tie.spec
+    (λ c κs. search needs)
+    returns
+    (λ c κs. search needs)
+    returns-2
+    (λ c κs. search needs)
+    returns-3
+    (λ c κs. search needs)
+    returns-4
+    (λ c κs. search needs)
+    returns-5
+    (λ c κs. search needs)
+    returns-6
+    (λ c κs. search needs)
+    returns-7
+    returns-8)

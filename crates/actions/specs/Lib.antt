@@ -1,0 +1,4 @@
+pub mod Actions
+pub mod Elements
+pub mod Matrix
+pub mod Statuses
