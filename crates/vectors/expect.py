@@ -1,0 +1,496 @@
+"""Reads a table of tests on standard input and writes for each line the line
+itself, " -> " and the answer that document 01 gives.
+
+A line is a word, one space and the rest, or the word alone (an empty value).
+A rest that opens with '#' is lower-case hexadecimal; any other is plain text.
+"""
+
+import sys
+
+# ---------------------------------------------------------------- characters
+
+CAPITALS = b"ABCDEFGHIJKLMNOPQRSTUVWXYZ"
+SMALL_LETTERS = b"abcdefghijklmnopqrstuvwxyz"
+DIGITS = b"0123456789"
+
+
+def only(value, characters):
+    return all(byte in characters for byte in value)
+
+
+# --------------------------------------------------------------- The message
+
+LONGEST_MESSAGE = 2048
+COUNT_SIZE = 2
+ENTRY_SIZE = 4
+MOST_ENTRIES = 25
+LOWEST_CODE = 1
+HIGHEST_CODE = 25
+
+
+def u16(message, at):
+    return message[at] + 256 * message[at + 1]
+
+
+def rises_strictly(numbers):
+    return all(a < b for a, b in zip(numbers, numbers[1:]))
+
+
+# The message: counts, codes and offsets
+def header(message):
+    """The message's codes and offsets, or None where the layout is wrong."""
+    if not COUNT_SIZE <= len(message) <= LONGEST_MESSAGE:
+        return None
+    count = u16(message, 0)
+    if count > MOST_ENTRIES:
+        return None
+    if count == 0:
+        return ([], []) if len(message) == COUNT_SIZE else None
+    header_size = COUNT_SIZE + ENTRY_SIZE * count
+    if len(message) < header_size:
+        return None
+    places = range(COUNT_SIZE, header_size, ENTRY_SIZE)
+    codes = [u16(message, place) for place in places]
+    offsets = [u16(message, place + 2) for place in places]
+    if not all(LOWEST_CODE <= code <= HIGHEST_CODE for code in codes):
+        return None
+    if not rises_strictly(codes):
+        return None
+    if offsets[0] != header_size or not rises_strictly(offsets):
+        return None
+    if not all(offset < len(message) for offset in offsets):
+        return None
+    return (codes, offsets)
+
+
+# The message: the layout
+def layout_is_right(message):
+    return header(message) is not None
+
+
+# The message: "A value runs to the next offset, the last one to the end"
+def element(message, wanted):
+    """The element's value, or None where a right message has none."""
+    codes, offsets = header(message)
+    ends = offsets[1:] + [len(message)]
+    for code, start, end in zip(codes, offsets, ends):
+        if code == wanted:
+            return message[start:end]
+    return None
+
+
+# ---------------------------------------------- Elements: forms of the values
+
+UTI_SHORTEST = 21
+UTI_LONGEST = 52
+EVENT_LENGTH = 4
+PACKAGE_SHORTEST = 1
+PACKAGE_LONGEST = 100
+CURRENCY_LENGTH = 3
+LOCATION_LENGTH = 2
+
+FULL_ACTIONS = [b"NEWT", b"MODI", b"CORR", b"REVI"]
+OTHER_ACTIONS = [b"TERM", b"EROR", b"PRTO"]
+ACTIONS = FULL_ACTIONS + OTHER_ACTIONS
+
+
+# Elements, code 1
+def is_uti(value):
+    return (UTI_SHORTEST <= len(value) <= UTI_LONGEST
+            and only(value, CAPITALS + DIGITS))
+
+
+# Elements, code 2
+def is_action(value):
+    return value in ACTIONS
+
+
+# Elements, code 3
+def is_event(value):
+    return len(value) == EVENT_LENGTH and only(value, CAPITALS)
+
+
+# Elements, code 10
+def is_cleared(value):
+    return value in [b"Y", b"N", b"I"]
+
+
+# Elements, code 14
+def is_allocation(value):
+    return value in [b"POST", b"PREA", b"UNAL"]
+
+
+# Elements, code 16
+def is_package(value):
+    return (PACKAGE_SHORTEST <= len(value) <= PACKAGE_LONGEST
+            and only(value, CAPITALS + SMALL_LETTERS + DIGITS))
+
+
+# Elements, code 18
+def is_notation(value):
+    return value in [b"1", b"3"]
+
+
+# Elements, codes 19 and 21
+def is_currency(value):
+    return len(value) == CURRENCY_LENGTH and only(value, CAPITALS)
+
+
+# Elements, code 22
+def is_location(value):
+    return len(value) == LOCATION_LENGTH and only(value, CAPITALS)
+
+
+# Elements, code 25
+def is_class(value):
+    return value in [b"CR", b"IR", b"FX", b"EQ", b"CO"]
+
+
+# Elements, "Truth"
+def is_truth(value):
+    return value in [b"True", b"False", b"true", b"false"]
+
+
+# Elements, "Date"
+FIRST_YEAR = 1900
+LAST_YEAR = 9999
+LAST_MONTH = 12
+DATE_LENGTH = 10
+DAYS_OF_MONTH = {1: 31, 2: 28, 3: 31, 4: 30, 5: 31, 6: 30,
+                 7: 31, 8: 31, 9: 30, 10: 31, 11: 30, 12: 31}
+
+
+def is_leap_year(year):
+    if year % 400 == 0:
+        return True
+    if year % 100 == 0:
+        return False
+    return year % 4 == 0
+
+
+def days_in_month(year, month):
+    if month == 2 and is_leap_year(year):
+        return 29
+    return DAYS_OF_MONTH[month]
+
+
+def is_date(value):
+    if len(value) != DATE_LENGTH or value[4:5] != b"-" or value[7:8] != b"-":
+        return False
+    if not only(value[0:4] + value[5:7] + value[8:10], DIGITS):
+        return False
+    year, month, day = int(value[0:4]), int(value[5:7]), int(value[8:10])
+    return (FIRST_YEAR <= year <= LAST_YEAR
+            and 1 <= month <= LAST_MONTH
+            and 1 <= day <= days_in_month(year, month))
+
+
+# Elements, "Time"
+TIME_LENGTH = 20
+LAST_HOUR = 23
+LAST_MINUTE = 59
+LAST_SECOND = 59
+
+
+def is_time(value):
+    if len(value) != TIME_LENGTH or not is_date(value[0:10]):
+        return False
+    if value[10:11] != b"T" or value[19:20] != b"Z":
+        return False
+    if value[13:14] != b":" or value[16:17] != b":":
+        return False
+    if not only(value[11:13] + value[14:16] + value[17:19], DIGITS):
+        return False
+    hour, minute, second = int(value[11:13]), int(value[14:16]), int(value[17:19])
+    return hour <= LAST_HOUR and minute <= LAST_MINUTE and second <= LAST_SECOND
+
+
+# Elements, "Num(a,b)"
+NOTIONAL_DIGITS = 25
+NOTIONAL_AFTER_POINT = 5
+PRICE_DIGITS = 18
+PRICE_AFTER_POINT = 13
+
+
+def is_num(value, most_digits, most_after_point):
+    whole, point, fraction = value.partition(b".")
+    if len(whole) == 0 or not only(whole, DIGITS):
+        return False
+    if point == b".":
+        if len(fraction) == 0 or not only(fraction, DIGITS):
+            return False
+    return (len(whole) + len(fraction) <= most_digits
+            and len(fraction) <= most_after_point)
+
+
+# Elements, code 20
+def is_notional(value):
+    return is_num(value, NOTIONAL_DIGITS, NOTIONAL_AFTER_POINT)
+
+
+# Elements, code 17: the form alone, whatever the notation
+def is_price(value):
+    if value[0:1] == b"-":
+        value = value[1:]
+    return is_num(value, PRICE_DIGITS, PRICE_AFTER_POINT)
+
+
+# Elements, "LEI (ISO 17442)"
+LEI_LENGTH = 20
+LEI_CHECK_DIGITS = 2
+LEI_DIVISOR = 97
+LEI_REMAINDER = 1
+
+
+def lei_number(value):
+    """The whole number, each of A to Z spelled out as 10 to 35."""
+    spelled = ""
+    for byte in value:
+        if byte in CAPITALS:
+            spelled += str(10 + CAPITALS.index(byte))
+        else:
+            spelled += chr(byte)
+    return int(spelled)
+
+
+def is_lei(value):
+    if len(value) != LEI_LENGTH:
+        return False
+    if not only(value[:-LEI_CHECK_DIGITS], CAPITALS + DIGITS):
+        return False
+    if not only(value[-LEI_CHECK_DIGITS:], DIGITS):
+        return False
+    return lei_number(value) % LEI_DIVISOR == LEI_REMAINDER
+
+
+# ------------------------------------------------- Elements: actions and codes
+
+HIGHEST_CODE_OF_OTHERS = 5
+NEEDED_BY_ALL = [1, 2, 4, 5]
+NEEDED_BY_FULL = [6, 7, 8, 9, 10, 12, 13, 14, 15, 20, 21, 23, 24, 25]
+
+
+# Elements, "TERM, EROR and PRTO take codes 1 to 5 only"
+def takes(action, code):
+    highest = HIGHEST_CODE if action in FULL_ACTIONS else HIGHEST_CODE_OF_OTHERS
+    return LOWEST_CODE <= code <= highest
+
+
+# Elements, column "Needed": "all" and "full" alone (verdict 7)
+def needs(action, code):
+    if code in NEEDED_BY_ALL:
+        return True
+    return action in FULL_ACTIONS and code in NEEDED_BY_FULL
+
+
+# --------------------------------------------------- Elements: the event matrix
+
+# Appendix F of document 000, the rows of the seven actions; x is a tick.
+# The thirteenth column is "No Event type required".
+NO_EVENT = None
+EVENT_COLUMNS = [b"TRAD", b"NOVA", b"COMP", b"ETRM", b"CLRG", b"EXER", b"ALOC",
+                 b"CLAL", b"CREV", b"PTNG", b"CORP", b"UPDT", NO_EVENT]
+TICKS = {
+    #        TRAD NOVA COMP ETRM CLRG EXER ALOC CLAL CREV PTNG CORP UPDT none
+    b"NEWT": "x    x    x    .    x    x    x    x    .    x    x    x    .",
+    b"MODI": "x    x    x    .    .    x    x    .    x    .    x    x    .",
+    b"CORR": ".    .    .    .    .    .    .    .    .    .    .    .    x",
+    b"TERM": ".    x    x    x    x    x    x    x    x    .    x    .    .",
+    b"EROR": ".    .    .    .    .    .    .    .    .    .    .    .    x",
+    b"REVI": ".    .    .    .    .    .    .    .    .    .    .    .    x",
+    b"PRTO": ".    .    .    .    .    .    .    .    .    x    .    .    .",
+}
+
+
+# Elements: "Which events go with which action"
+def pair_is_allowed(action, event):
+    if event not in EVENT_COLUMNS:
+        return False
+    return TICKS[action].split()[EVENT_COLUMNS.index(event)] == "x"
+
+
+# ------------------------------------------------------------------- Statuses
+
+UNKNOWN, LIVE, CLOSED, ERRORED, PORTED = 0, 1, 2, 3, 4
+STEPS = {
+    (b"NEWT", UNKNOWN): LIVE,
+    (b"MODI", LIVE): LIVE,
+    (b"CORR", LIVE): LIVE,
+    (b"CORR", CLOSED): CLOSED,
+    (b"TERM", LIVE): CLOSED,
+    (b"EROR", LIVE): ERRORED,
+    (b"EROR", CLOSED): ERRORED,
+    (b"REVI", ERRORED): LIVE,
+    (b"REVI", CLOSED): LIVE,
+    (b"PRTO", LIVE): PORTED,
+}
+
+
+# Statuses: "No other step exists"
+def status_after(action, status):
+    return STEPS.get((action, status))
+
+
+# The tape line: "every accepted message but PRTO writes one"
+def writes_line(action):
+    return action != b"PRTO"
+
+
+# ------------------------------------------------------------ the table's lines
+
+LONGEST_LINE = 5000
+HEX_DIGITS = b"0123456789abcdef"
+HIGHEST_ASKED_IN_MESSAGE = 99
+HIGHEST_ASKED_OF_ACTION = 30
+HIGHEST_ASKED_STATUS = 9
+MISSING = "-"
+
+FORMS = {
+    b"uti": is_uti,
+    b"event": is_event,
+    b"time": is_time,
+    b"date": is_date,
+    b"cleared": is_cleared,
+    b"truth": is_truth,
+    b"allocation": is_allocation,
+    b"package": is_package,
+    b"price": is_price,
+    b"notation": is_notation,
+    b"currency": is_currency,
+    b"notional": is_notional,
+    b"location": is_location,
+    b"lei": is_lei,
+    b"class": is_class,
+    b"action": is_action,
+}
+
+
+class Malformed(Exception):
+    pass
+
+
+def yes_or_no(truth):
+    return "yes" if truth else "no"
+
+
+def read_hex(text):
+    if text[0:1] != b"#":
+        raise Malformed("hexadecimal opens with '#'")
+    digits = text[1:]
+    if len(digits) % 2 != 0 or not only(digits, HEX_DIGITS):
+        raise Malformed("not pairs of lower-case hexadecimal digits")
+    return bytes.fromhex(digits.decode("ascii"))
+
+
+def read_value(rest):
+    return read_hex(rest) if rest[0:1] == b"#" else rest
+
+
+def read_number(text, highest):
+    if len(text) == 0 or not only(text, DIGITS):
+        raise Malformed("a decimal number is due")
+    if len(text) > 1 and text[0:1] == b"0":
+        raise Malformed("a number has a leading zero")
+    if int(text) > highest:
+        raise Malformed("a number is above %d" % highest)
+    return int(text)
+
+
+def read_action(text):
+    if text not in ACTIONS:
+        raise Malformed("the action is not one of the seven")
+    return text
+
+
+def read_fields(rest, counts):
+    fields = rest.split(b" ")
+    if len(fields) not in counts or b"" in fields:
+        raise Malformed("wrong number of fields")
+    return fields
+
+
+def answer_layout(rest):
+    return yes_or_no(layout_is_right(read_hex(rest)))
+
+
+def answer_element(rest):
+    code, text = read_fields(rest, [2])
+    code = read_number(code, HIGHEST_ASKED_IN_MESSAGE)
+    message = read_hex(text)
+    if not layout_is_right(message):
+        raise Malformed("an element is asked of a message whose layout is wrong")
+    value = element(message, code)
+    return MISSING if value is None else value.hex()
+
+
+def answer_pair(rest):
+    fields = read_fields(rest, [1, 2])
+    event = fields[1] if len(fields) == 2 else NO_EVENT
+    return yes_or_no(pair_is_allowed(read_action(fields[0]), event))
+
+
+def answer_step(rest):
+    action, status = read_fields(rest, [2])
+    after = status_after(read_action(action),
+                         read_number(status, HIGHEST_ASKED_STATUS))
+    return MISSING if after is None else str(after)
+
+
+def answer_takes(rest):
+    action, code = read_fields(rest, [2])
+    return yes_or_no(takes(read_action(action),
+                           read_number(code, HIGHEST_ASKED_OF_ACTION)))
+
+
+def answer_needs(rest):
+    action, code = read_fields(rest, [2])
+    return yes_or_no(needs(read_action(action),
+                           read_number(code, HIGHEST_ASKED_OF_ACTION)))
+
+
+def answer_line(rest):
+    return yes_or_no(writes_line(read_action(rest)))
+
+
+QUESTIONS = {
+    b"layout": answer_layout,
+    b"element": answer_element,
+    b"pair": answer_pair,
+    b"step": answer_step,
+    b"takes": answer_takes,
+    b"needs": answer_needs,
+    b"line": answer_line,
+}
+
+
+def answer(line):
+    if len(line) > LONGEST_LINE:
+        raise Malformed("longer than %d bytes" % LONGEST_LINE)
+    if not all(0x20 <= byte <= 0x7E for byte in line):
+        raise Malformed("a byte that is not printable ASCII")
+    word, space, rest = line.partition(b" ")
+    if space == b" " and rest == b"":
+        raise Malformed("a space and nothing after it")
+    if word in FORMS:
+        return yes_or_no(FORMS[word](read_value(rest)))
+    if word in QUESTIONS:
+        return QUESTIONS[word](rest)
+    raise Malformed("unknown word")
+
+
+def main():
+    table = sys.stdin.buffer.read()
+    if not table.endswith(b"\n"):
+        sys.exit("the table is empty or its last line has no newline")
+    output = []
+    for number, line in enumerate(table[:-1].split(b"\n"), 1):
+        try:
+            output.append(line + b" -> " + answer(line).encode("ascii") + b"\n")
+        except Malformed as fault:
+            sys.exit("line %d: %s: %r" % (number, fault, line[:60]))
+    sys.stdout.buffer.write(b"".join(output))
+    sys.stdout.buffer.flush()
+
+
+if __name__ == "__main__":
+    main()

@@ -1,0 +1,81 @@
+// Answers a table of tests. Each line of standard input is a word, a space and what it asks of; the line is written out with
+// the core's answer. expect.py says what each line must get.
+ghost use Prim.Native.Nat.{_≤_};
+ghost use lib.ListN.{length};
+
+mod forms;
+mod hex;
+mod tables;
+
+use libc::STDIN_FILENO;
+use octets::part_of;
+
+// The longest input that is read.
+const INPUT: usize = 262144;
+
+fn main() {
+    let mut input = [0u8; INPUT];
+    let n = io::read_full(STDIN_FILENO, &mut input);
+    answer_lines(&input[..n]);
+}
+
+fn answer_lines(input: &[u8]) {
+    let mut at: usize = 0;
+    while at < input.len() {
+        let rest = part_of(input, at, input.len());
+        let n = place_of(rest, b'\n');
+        answer_line(part_of(rest, 0, n));
+        at = at + n + 1;
+    }
+}
+
+// The place of the first byte that is b, or the length where there is none.
+fn place_of(s: &[u8], b: u8) -> usize
+    ensures { λ r. ⌜ r ≤ length (now (s .entry)) ⌝ }
+{
+    let mut i: usize = 0;
+    while i < s.len() {
+        if s[i] == b {
+            return i;
+        }
+        i += 1;
+    }
+    i
+}
+
+fn answer_line(line: &[u8]) {
+    hex::say(line);
+    hex::say(b" -> ");
+    let n = place_of(line, b' ');
+    let word = part_of(line, 0, n);
+    let rest = part_of(line, n + 1, line.len());
+    answer(word, rest);
+    hex::say(b"\n");
+}
+
+// What a word asks of the rest of its line. A rest that opens with # is hexadecimal.
+fn answer(word: &[u8], rest: &[u8]) {
+    if tables::answered(word, rest) {
+        return;
+    }
+    if octets::same(word, b"element") {
+        answer_element(rest);
+        return;
+    }
+    if octets::byte_at(rest, 0) == b'#' {
+        let mut bytes = [0u8; hex::LONGEST];
+        let n = hex::decode(part_of(rest, 1, rest.len()), &mut bytes);
+        forms::answer(word, part_of(&bytes, 0, n));
+        return;
+    }
+    forms::answer(word, rest);
+}
+
+// The rest is a code, a space, # and a message.
+fn answer_element(rest: &[u8]) {
+    let n = place_of(rest, b' ');
+    let mut bytes = [0u8; hex::LONGEST];
+    let size = hex::decode(part_of(rest, n + 2, rest.len()), &mut bytes);
+    let code = tables::number_of(part_of(rest, 0, n));
+    hex::say_hex(message::element(part_of(&bytes, 0, size), code));
+}
