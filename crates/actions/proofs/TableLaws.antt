@@ -1,18 +1,18 @@
--- One law for every table of actions: a table that is computed from a rule has, at an action's row, what the rule says. Assumes nothing.
+-- One law for every table: one that is computed from a rule has at a row and a column what the rule says. Assumes nothing.
 use Prim.Native.Nat.{ℕ, zero, suc, _+_, _<_, _≤_}
 use mathlib.Core.Path.{_≡_, refl, sym, ap, _∙_}
 use mathlib.Core.List.{List, [], _∷_, map}
 use native.Mathlib.Nat.{add-zero, zero-add, not-suc-le-zero, le-of-suc-le-suc}
 use native.Mathlib.Omega.{arith}
-use lib.ListN.{getD, List·getD-eq-default}
+use lib.ListN.{length, getD, List·getD-eq-default}
 use Rattle.actions.specs.declared.Action.{Action}
 use Rattle.actions.specs.declared.Action.the-variants.{Newt, Modi, Corr, Term, Eror, Revi, Prto}
 use Rattle.octets.specs.Choice.{choose}
 use Rattle.actions.specs.Actions.{allActions, rowOf, isFull}
-use Rattle.actions.specs.Elements.{lastCode, lastShortCode, takes, optional, needed, needs}
+use Rattle.actions.specs.Elements.{lastCode, lastShortCode, columnOf, takes, optional, needed, needs}
 use Rattle.actions.specs.Statuses.{unknown, live, closed, errored, ported, noStep, nextStatus}
 use mathlib.Core.Bool.{Bool, true, false}
-use lib.Dec.{leb, eqb}
+use lib.Dec.{leb, eqb, lit<}
 use borrow.Author.Tests.{le-leb, lt-leb, ne-eqb}
 
 -- the n numbers from k on
@@ -20,33 +20,81 @@ unfoldable pub numbers : ℕ → ℕ → List ℕ
 numbers k zero = []
 numbers k (suc n) = k ∷ numbers (suc k) n
 
-column-at : {A : Type 0} (f : ℕ → A) (k n i : ℕ) (d : A) → i < n → getD (map f (numbers k n)) i d ≡ f (k + i)
+-- the table of a rule, with m rows and n columns
+unfoldable pub table : {A : Type 0} → (ℕ → ℕ → A) → ℕ → ℕ → List (List A)
+table rule m n = map (λ r. map (rule r) (numbers 0 n)) (numbers 0 m)
+
+entry-from : {A : Type 0} (f : ℕ → A) (k n i : ℕ) (d : A) → i < n → getD (map f (numbers k n)) i d ≡ f (k + i)
 unfolding numbers
-column-at f k zero i d h = absurd (not-suc-le-zero h)
-column-at f k (suc n) zero d h = ap f (sym (add-zero k))
-column-at f k (suc n) (suc i) d h =
+entry-from f k zero i d h = absurd (not-suc-le-zero h)
+entry-from f k (suc n) zero d h = ap f (sym (add-zero k))
+entry-from f k (suc n) (suc i) d h =
     let e : suc k + i ≡ k + suc i = omega arith in
-    column-at f (suc k) n i d (le-of-suc-le-suc h) ∙ ap f e
+    entry-from f (suc k) n i d (le-of-suc-le-suc h) ∙ ap f e
 
-row-at : {A : Type 0} (f : Action → A) (d : A) (a : Action) → getD (map f allActions) (rowOf a) d ≡ f a
-row-at f d Newt = refl
-row-at f d Modi = refl
-row-at f d Corr = refl
-row-at f d Term = refl
-row-at f d Eror = refl
-row-at f d Revi = refl
-row-at f d Prto = refl
+entry : {A : Type 0} (f : ℕ → A) (n i : ℕ) (d : A) → i < n → getD (map f (numbers 0 n)) i d ≡ f i
+entry f n i d h = entry-from f 0 n i d h ∙ ap f (zero-add i)
 
--- a row for each action, n columns, as the rule says
-unfoldable pub table : {A : Type 0} → (Action → ℕ → A) → ℕ → List (List A)
-table rule n = map (λ a. map (rule a) (numbers 0 n)) allActions
-
-pub table-at : {A : Type 0} (rule : Action → ℕ → A) (n : ℕ) (a : Action) (column : ℕ) (d : A) → column < n → getD (getD (table rule n) (rowOf a) []) column d ≡ rule a column
+pub table-at : {A : Type 0} (rule : ℕ → ℕ → A) (m n r c : ℕ) (d : A) → r < m → c < n → getD (getD (table rule m n) r []) c d ≡ rule r c
 unfolding table
-table-at rule n a column d h =
-    ap (λ l. getD l column d) (row-at (λ b. map (rule b) (numbers 0 n)) [] a)
-    ∙ column-at (rule a) 0 n column d h
-    ∙ ap (rule a) (zero-add column)
+table-at rule m n r c d h l = ap (λ row. getD row c d) (entry (λ k. map (rule k) (numbers 0 n)) m r [] h) ∙ entry (rule r) n c d l
+
+-- ---- tables with a row for each action
+
+abbrev pub actionAt : ℕ → Action
+actionAt r = getD allActions r Newt
+
+row-low : (a : Action) → rowOf a < length allActions
+row-low Newt = lit< tt
+row-low Modi = lit< tt
+row-low Corr = lit< tt
+row-low Term = lit< tt
+row-low Eror = lit< tt
+row-low Revi = lit< tt
+row-low Prto = lit< tt
+
+action-back : (a : Action) → actionAt (rowOf a) ≡ a
+action-back Newt = refl
+action-back Modi = refl
+action-back Corr = refl
+action-back Term = refl
+action-back Eror = refl
+action-back Revi = refl
+action-back Prto = refl
+
+pub action-table-at : {A : Type 0} (rule : Action → ℕ → A) (n : ℕ) (a : Action) (c : ℕ) (d : A) → c < n → getD (getD (table (λ r. rule (actionAt r)) (length allActions) n) (rowOf a) []) c d ≡ rule a c
+action-table-at rule n a c d h = table-at (λ r. rule (actionAt r)) (length allActions) n (rowOf a) c d (row-low a) h ∙ ap (λ b. rule b c) (action-back a)
+
+-- ---- the table of elements, with a row for each code and two columns for each kind of action
+
+abbrev pub useAt : ℕ → ℕ → Bool
+useAt code column = getD (takes Newt code ∷ needs Newt code ∷ takes Term code ∷ needs Term code ∷ []) column false
+
+pub column-low : (a : Action) → columnOf a ≤ 2
+column-low a = by (isFull a)
+  where
+    by : (t : Bool) → choose t 0 2 ≤ 2
+    by true = omega arith
+    by false = omega arith
+
+-- what an action takes and needs depends on whether it is full
+pub takes-column : (a : Action) (code : ℕ) → useAt code (columnOf a) ≡ takes a code
+takes-column Newt code = refl
+takes-column Modi code = refl
+takes-column Corr code = refl
+takes-column Term code = refl
+takes-column Eror code = refl
+takes-column Revi code = refl
+takes-column Prto code = refl
+
+pub needs-column : (a : Action) (code : ℕ) → useAt code (columnOf a + 1) ≡ needs a code
+needs-column Newt code = refl
+needs-column Modi code = refl
+needs-column Corr code = refl
+needs-column Term code = refl
+needs-column Eror code = refl
+needs-column Revi code = refl
+needs-column Prto code = refl
 
 -- ---- beyond the last column
 

@@ -66,12 +66,17 @@ needed =
     ∷ full  -- 25 asset class
     ∷ []
 
-abbrev pub neededBy : Action → Needed → Bool
-neededBy a all = true
-neededBy a full = isFull a
-neededBy a conditional = false
-neededBy a optional = false
+-- needed by a message that is full, or by one that is not
+abbrev pub neededBy : Bool → Needed → Bool
+neededBy isFull all = true
+neededBy isFull full = isFull
+neededBy isFull conditional = false
+neededBy isFull optional = false
 
 -- a message of the action needs the element, whatever else it has
 abbrev pub needs : Action → ℕ → Bool
-needs a code = neededBy a (getD needed code optional)
+needs a code = neededBy (isFull a) (getD needed code optional)
+
+-- the first of an action's two columns in the table of the code: what it takes; the second: what it needs
+abbrev pub columnOf : Action → ℕ
+columnOf a = choose (isFull a) 0 2

@@ -1,4 +1,4 @@
--- `actions::is_pair` meets its contract. Assumes nothing.
+-- `actions::matrix::is_pair` meets its contract. Assumes nothing.
 use mathlib.Core.Path.{_≡_, refl, ap, _∙_}
 use native.Mathlib.Omega.{arith}
 use Prim.Native.Nat.{_<_, _≤_}
@@ -10,8 +10,8 @@ use Rattle.octets.proofs.SameLaws.{row, wide, among}
 use Rattle.values.specs.Limits.{eventSize}
 use Rattle.actions.specs.Matrix.{events, noEvent, tick, pairAllowed}
 use borrow.Author.Needs.{needs}
-use Rattle.actions.proofs.is_pair.Statement.{statement}
-use Rattle.actions.proofs.is_pair.Tie as tie
+use Rattle.actions.proofs.matrix.is_pair.Statement.{statement}
+use Rattle.actions.proofs.matrix.is_pair.Tie as tie
 
 -- the column that was found
 column : (c : tie.After-place-in) → c .place-in .result ≡ place events (now (c .before .before .before .before .args .event))
