@@ -3,7 +3,7 @@ ghost use mathlib.Core.Path.{_≡_};
 ghost use Prim.Native.Nat.{_-_, _<_};
 ghost use lib.ListN.{getD};
 ghost use Rattle.values.specs.Date.{fitsByte, fits, two, leap, daysIn, gregorian, namesDate, isDate, isTime};
-use crate::limits;
+use crate::limits::FIRST_YEAR;
 use crate::run::Class;
 use crate::run::in_class;
 use crate::run::is_within;
@@ -85,7 +85,7 @@ fn days_in(y: usize, m: usize) -> usize
 fn is_gregorian(y: usize, m: usize, d: usize) -> bool
     ensures { λ r. ⌜ r ≡ gregorian y m d ⌝ }
 {
-    if y < limits::FIRST_YEAR {
+    if y < FIRST_YEAR {
         return false;
     }
     if !is_within(1, 12, m) {

@@ -3,7 +3,10 @@ ghost use mathlib.Core.Path.{_≡_};
 ghost use Prim.Native.Nat.{_≤_};
 ghost use lib.ListN.{length};
 ghost use Rattle.values.specs.Number.{pointIn, wholeOf, decimalsOf, isNumber, unsignedOf, isPrice, isNotional};
-use crate::limits;
+use crate::limits::NOTIONAL_DECIMALS;
+use crate::limits::NOTIONAL_DIGITS;
+use crate::limits::PRICE_DECIMALS;
+use crate::limits::PRICE_DIGITS;
 use crate::run::Class;
 use crate::run::run_of;
 
@@ -75,11 +78,11 @@ pub fn unsigned_of<'a>(v: &'a [u8]) -> &'a [u8]
 pub fn is_price(v: &[u8]) -> bool
     ensures { λ r. ⌜ r ≡ isPrice (now (v .entry)) ⌝ }
 {
-    is_number(limits::PRICE_DIGITS, limits::PRICE_DECIMALS, unsigned_of(v))
+    is_number(PRICE_DIGITS, PRICE_DECIMALS, unsigned_of(v))
 }
 
 pub fn is_notional(v: &[u8]) -> bool
     ensures { λ r. ⌜ r ≡ isNotional (now (v .entry)) ⌝ }
 {
-    is_number(limits::NOTIONAL_DIGITS, limits::NOTIONAL_DECIMALS, v)
+    is_number(NOTIONAL_DIGITS, NOTIONAL_DECIMALS, v)
 }

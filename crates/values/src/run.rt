@@ -1,7 +1,12 @@
 // Runs of characters of one class.
 ghost use mathlib.Core.Path.{_≡_};
 ghost use Rattle.values.specs.Run.{within, inClass, runOf, isUti, isEvent, isPackageIdentifier, isCurrency, isLocation};
-use crate::limits;
+use crate::limits::CURRENCY_SIZE;
+use crate::limits::EVENT_SIZE;
+use crate::limits::LOCATION_SIZE;
+use crate::limits::PACKAGE_MOST;
+use crate::limits::UTI_LEAST;
+use crate::limits::UTI_MOST;
 
 pub enum Class {
     Digit,
@@ -67,44 +72,29 @@ pub fn run_of(least: usize, most: usize, class: Class, v: &[u8]) -> bool
 pub fn is_uti(v: &[u8]) -> bool
     ensures { λ r. ⌜ r ≡ isUti (now (v .entry)) ⌝ }
 {
-    run_of(
-        limits::UTI_LEAST,
-        limits::UTI_MOST,
-        Class::CapitalOrDigit,
-        v,
-    )
+    run_of(UTI_LEAST, UTI_MOST, Class::CapitalOrDigit, v)
 }
 
 pub fn is_event(v: &[u8]) -> bool
     ensures { λ r. ⌜ r ≡ isEvent (now (v .entry)) ⌝ }
 {
-    run_of(limits::EVENT_SIZE, limits::EVENT_SIZE, Class::Capital, v)
+    run_of(EVENT_SIZE, EVENT_SIZE, Class::Capital, v)
 }
 
 pub fn is_package_identifier(v: &[u8]) -> bool
     ensures { λ r. ⌜ r ≡ isPackageIdentifier (now (v .entry)) ⌝ }
 {
-    run_of(1, limits::PACKAGE_MOST, Class::LetterOrDigit, v)
+    run_of(1, PACKAGE_MOST, Class::LetterOrDigit, v)
 }
 
 pub fn is_currency(v: &[u8]) -> bool
     ensures { λ r. ⌜ r ≡ isCurrency (now (v .entry)) ⌝ }
 {
-    run_of(
-        limits::CURRENCY_SIZE,
-        limits::CURRENCY_SIZE,
-        Class::Capital,
-        v,
-    )
+    run_of(CURRENCY_SIZE, CURRENCY_SIZE, Class::Capital, v)
 }
 
 pub fn is_location(v: &[u8]) -> bool
     ensures { λ r. ⌜ r ≡ isLocation (now (v .entry)) ⌝ }
 {
-    run_of(
-        limits::LOCATION_SIZE,
-        limits::LOCATION_SIZE,
-        Class::Capital,
-        v,
-    )
+    run_of(LOCATION_SIZE, LOCATION_SIZE, Class::Capital, v)
 }
