@@ -1,5 +1,5 @@
 -- Laws of a right layout: no value is empty; the values stand in order without gap, and the last runs to the end; an element without a value
--- has no entry. Assumes nothing.
+-- has no entry, and each entry is found by its code. Assumes nothing.
 use Prim.Native.Nat.{ℕ, zero, suc, _+_, _-_, _<_, _≤_}
 use mathlib.Core.Path.{_≡_, refl, sym, ap, _∙_}
 use mathlib.Core.Bool.{Bool, true, false}
@@ -10,11 +10,11 @@ use native.Mathlib.Numerals.{add-one}
 use lib.Dec.{ltb, leb, eqb}
 use lib.ListN.{length, getD, take, drop, length-take, length-drop, take-append-drop}
 use lib.Seq.{take-all, drop-drop}
-use borrow.Author.Tests.{ltb-true, lt-ltb, le-ltb, eqb-true, eq-eqb, ne-eqb}
+use borrow.Author.Tests.{ltb-true, ltb-false, lt-ltb, le-ltb, eqb-true, eq-eqb, ne-eqb}
 use Rattle.octets.specs.Choice.{choose, both}
 use Rattle.octets.specs.Search.{firstFrom, all}
 use Rattle.octets.proofs.ChoiceLaws.{both-first, both-second}
-use Rattle.octets.proofs.SearchLaws.{all-at, first-le, from-start}
+use Rattle.octets.proofs.SearchLaws.{all-at, first-le, first-passes, from-start}
 use Rattle.message.specs.Layout.{countSize, count, codeAt, offsetAt, headerSize, entryRight, layoutRight}
 use Rattle.message.specs.Values.{entryFrom, endOf, valueAt, value, valuesFrom}
 
@@ -117,3 +117,33 @@ module _ (longest most : ℕ) (known : List Bool) (m : List ℕ) (right : layout
       let l : firstFrom f 0 (count m - 0) ≤ 0 + k = rw from-start (first-le f 0 (count m) k h (rw zero-add (eq-eqb _ _ p))) in
       let filled : 0 < length (value code m) = value-filled (firstFrom f 0 (count m - 0)) (omega arith) in
       omega (arith, ap length e)
+
+  -- codes rise over any distance
+  code-apart : (d i j : ℕ) → j ≡ i + (d + 1) → j < count m → codeAt m i < codeAt m j
+  code-apart zero i j e h = rw e (code-rises i (omega arith))
+  code-apart (suc d) i j e h =
+      let near : codeAt m i < codeAt m (i + (d + 1)) = code-apart d i (i + (d + 1)) refl (omega arith) in
+      let next : j ≡ i + (d + 1) + 1 = omega arith in
+      let far : codeAt m (i + (d + 1)) < codeAt m (i + (d + 1) + 1) = code-rises (i + (d + 1)) (omega arith) in
+      rw next (omega arith)
+
+  -- an entry is found by its code
+  pub entry-found : (k : ℕ) → k < count m → entryFrom m (codeAt m k) 0 ≡ k
+  unfolding entryFrom
+  entry-found k h =
+      let f : ℕ → Bool = λ j. eqb (codeAt m j) (codeAt m k) in
+      let j : ℕ = firstFrom f 0 (count m) in
+      let l : j ≤ 0 + k = first-le f 0 (count m) k h (rw zero-add (eq-eqb (codeAt m k) (codeAt m k) refl)) in
+      let e : codeAt m j ≡ codeAt m k = eqb-true (codeAt m j) (codeAt m k) (first-passes f 0 (count m) (omega arith)) in
+      rw from-start (by j l e (ltb j k) refl)
+    where
+      by : (j : ℕ) → j ≤ 0 + k → codeAt m j ≡ codeAt m k → (t : Bool) → ltb j k ≡ t → j ≡ k
+      by j l e true lt =
+          let less : codeAt m j < codeAt m k = code-apart (k - (j + 1)) j k (omega (arith, ltb-true j k lt)) h in
+          absurd (omega arith)
+      by j l e false ge = omega (arith, ltb-false j k ge)
+
+  -- and so is its value
+  pub value-found : (k : ℕ) → k < count m → value (codeAt m k) m ≡ valueAt m k
+  unfolding value
+  value-found k h = ap (valueAt m) (entry-found k h)

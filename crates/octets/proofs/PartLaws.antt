@@ -19,13 +19,17 @@ length-splice d ys at h = simp (length-append, length-take, length-drop) (omega 
 
 -- ---- what the borrow checker gives of a part that is lent from `at` on, n bytes long
 
-pub lent-length : (xs : List ℕ) (at n : ℕ) → at + n ≤ length xs → length (take (at + n - at) (drop at xs)) ≡ n
+lent-length : (xs : List ℕ) (at n : ℕ) → at + n ≤ length xs → length (take (at + n - at) (drop at xs)) ≡ n
 lent-length xs at n h = rw add-sub-cancel-left (length-part xs at n h)
 
 -- it came back as ys
 pub lent-back : (d l ys : List ℕ) (at n : ℕ) → l ≡ ys → length ys ≡ n → take at d ++ (l ++ drop (at + n - at) (drop at d)) ≡ splice d at ys
 unfolding splice
 lent-back d l ys at n e f = rw (e, add-sub-cancel-left, drop-drop, ← f)
+
+-- it came back as what f has for its length
+pub lent-filled : (d l : List ℕ) (at n : ℕ) (f : ℕ → List ℕ) → ((k : ℕ) → length (f k) ≡ k) → at + n ≤ length d → l ≡ f (length (take (at + n - at) (drop at d))) → take at d ++ (l ++ drop (at + n - at) (drop at d)) ≡ splice d at (f n)
+lent-filled d l at n f size h e = lent-back d l (f n) at n (e ∙ ap f (lent-length d at n h)) (size n)
 
 -- ---- a part of bytes in which ys took the place of others, from `at` on
 

@@ -8,14 +8,14 @@ use native.Mathlib.Omega.{arith}
 use native.Mathlib.Nat.{suc-mul, zero-mul, add-zero, zero-add}
 use lib.ListN.{length, getD, drop, length-append}
 use lib.Seq.{drop-cons, take-at, drop-at}
-use lib.Dec.{eqb}
+use lib.Dec.{ltb, eqb}
 use borrow.Author.Tests.{eqb-true, eq-eqb}
 use Rattle.octets.specs.Choice.{choose, both}
 use Rattle.octets.specs.Search.{firstFrom}
 use Rattle.octets.specs.Part.{part}
 use Rattle.octets.specs.Text.{text}
 use Rattle.octets.proofs.ChoiceLaws.{both-first, both-second}
-use Rattle.octets.specs.Same.{sameBytes, placeAmong, place, beside}
+use Rattle.octets.specs.Same.{sameBytes, placeAmong, place, oneOf, beside}
 
 -- ---- the test tells equality
 
@@ -90,3 +90,7 @@ among-from w v (c ∷ cs) p k e l =
 pub among : (w : ℕ) (cs : List String) (v : List ℕ) → wide w cs ≡ true → placeAmong w (length cs) (row cs) v ≡ place cs v
 unfolding placeAmong
 among w cs v e = among-from w v cs [] 0 e (sym (zero-mul w)) ∙ zero-add (place cs v)
+
+pub one-among : (w : ℕ) (cs : List String) (v : List ℕ) → wide w cs ≡ true → ltb (placeAmong w (length cs) (row cs) v) (length cs) ≡ oneOf cs v
+unfolding oneOf
+one-among w cs v e = ap (λ k. ltb k (length cs)) (among w cs v e)

@@ -3,6 +3,7 @@
 ghost use mathlib.Core.Path.{_≡_};
 ghost use Prim.Native.Nat.{_+_, _*_, _^_, _<_, _≤_};
 ghost use lib.ListN.{length, getD, replicate};
+ghost use lib.Dec.{ltb};
 ghost use Rattle.octets.specs.Part.{part, splice, PartOf};
 ghost use Rattle.octets.specs.Same.{sameBytes, placeAmong};
 ghost use Rattle.octets.specs.Number.{fromLe, toLe, digits};
@@ -61,6 +62,14 @@ pub fn place_in(v: &[u8], codes: &[u8], width: usize, count: usize) -> usize
         k += 1;
     }
     k
+}
+
+// Whether the value is one of `count` codes, each `width` bytes wide.
+pub fn one_of(v: &[u8], codes: &[u8], width: usize, count: usize) -> bool
+    requires { ⌜ count * width ≤ length (now codes) ⌝ }
+    ensures { λ r. ⌜ r ≡ ltb (placeAmong width count (now (codes .entry)) (now (v .entry))) count ⌝ }
+{
+    place_in(v, codes, width, count) < count
 }
 
 // Copies src into dst, which is as long.

@@ -19,12 +19,12 @@ fitsByte p b = choose (eqb p (code "0")) (inClass Digit b) (eqb b p)
 abbrev pub fitsAt : List ℕ → List ℕ → ℕ → Bool
 fitsAt p v k = fitsByte (getD p k 0) (getD v k 0)
 
-unfoldable pub fits : List ℕ → List ℕ → Bool
-fits p v = both (eqb (length v) (length p)) (all (fitsAt p v) (length v))
+unfoldable pub fitsPattern : List ℕ → List ℕ → Bool
+fitsPattern p v = both (eqb (length v) (length p)) (all (fitsAt p v) (length v))
 
 -- the number of the two digits from i on
-unfoldable pub two : List ℕ → ℕ → ℕ
-two v i = (getD v i 0 - code "0") * 10 + (getD v (i + 1) 0 - code "0")
+unfoldable pub twoDigits : List ℕ → ℕ → ℕ
+twoDigits v i = (getD v i 0 - code "0") * 10 + (getD v (i + 1) 0 - code "0")
 
 unfoldable pub leap : ℕ → Bool
 leap y = either (eqb (y % 400) 0) (both (eqb (y % 4) 0) (not (eqb (y % 100) 0)))
@@ -40,13 +40,13 @@ gregorian y m d = both (leb firstYear y) (both (within 1 12 m) (within 1 (daysIn
 
 -- the first ten bytes name a date
 unfoldable pub namesDate : List ℕ → Bool
-namesDate v = gregorian (two v 0 * 100 + two v 2) (two v 5) (two v 8)
+namesDate v = gregorian (twoDigits v 0 * 100 + twoDigits v 2) (twoDigits v 5) (twoDigits v 8)
 
 unfoldable pub isDate : List ℕ → Bool
-isDate v = both (fits (text "0000-00-00") v) (namesDate v)
+isDate v = both (fitsPattern (text "0000-00-00") v) (namesDate v)
 
 -- hours 00 to 23, minutes and seconds 00 to 59
 unfoldable pub isTime : List ℕ → Bool
 isTime v =
-    both (fits (text "0000-00-00T00:00:00Z") v)
-    (both (namesDate v) (both (ltb (two v 11) 24) (both (ltb (two v 14) 60) (ltb (two v 17) 60))))
+    both (fitsPattern (text "0000-00-00T00:00:00Z") v)
+    (both (namesDate v) (both (ltb (twoDigits v 11) 24) (both (ltb (twoDigits v 14) 60) (ltb (twoDigits v 17) 60))))

@@ -2,7 +2,7 @@
 ghost use mathlib.Core.Path.{_≡_};
 ghost use Rattle.octets.specs.Same.{sameBytes};
 ghost use Rattle.values.specs.Code.{isTrue, isFalse, isTruth, isCleared, isAllocation, isNotation, isAssetClass};
-use octets::place_in;
+use octets::one_of;
 use octets::same;
 
 // The value is a code of four bytes.
@@ -42,7 +42,7 @@ pub fn is_truth(v: &[u8]) -> bool
 pub fn is_cleared(v: &[u8]) -> bool
     ensures { λ r. ⌜ r ≡ isCleared (now (v .entry)) ⌝ }
 {
-    place_in(v, b"YNI", 1, 3) < 3
+    one_of(v, b"YNI", 1, 3)
 }
 
 pub fn is_allocation(v: &[u8]) -> bool
@@ -60,11 +60,11 @@ pub fn is_allocation(v: &[u8]) -> bool
 pub fn is_notation(v: &[u8]) -> bool
     ensures { λ r. ⌜ r ≡ isNotation (now (v .entry)) ⌝ }
 {
-    place_in(v, b"13", 1, 2) < 2
+    one_of(v, b"13", 1, 2)
 }
 
 pub fn is_asset_class(v: &[u8]) -> bool
     ensures { λ r. ⌜ r ≡ isAssetClass (now (v .entry)) ⌝ }
 {
-    place_in(v, b"CRIRFXEQCO", 2, 5) < 5
+    one_of(v, b"CRIRFXEQCO", 2, 5)
 }

@@ -2,7 +2,7 @@
 ghost use mathlib.Core.Path.{_≡_};
 ghost use Prim.Native.Nat.{_-_, _<_};
 ghost use lib.ListN.{getD};
-ghost use Rattle.values.specs.Date.{fitsByte, fits, two, leap, daysIn, gregorian, namesDate, isDate, isTime};
+ghost use Rattle.values.specs.Date.{fitsByte, fitsPattern, twoDigits, leap, daysIn, gregorian, namesDate, isDate, isTime};
 use crate::limits::FIRST_YEAR;
 use crate::run::Class;
 use crate::run::in_class;
@@ -21,7 +21,7 @@ fn fits_byte(p: u8, b: u8) -> bool
 
 // A value fits a pattern, in which 0 stands for any digit and any other byte for itself.
 fn fits_pattern(v: &[u8], p: &[u8]) -> bool
-    ensures { λ r. ⌜ r ≡ fits (now (p .entry)) (now (v .entry)) ⌝ }
+    ensures { λ r. ⌜ r ≡ fitsPattern (now (p .entry)) (now (v .entry)) ⌝ }
 {
     if v.len() != p.len() {
         return false;
@@ -50,7 +50,7 @@ fn digit_at(v: &[u8], i: usize) -> usize
 // The number of the two digits from i on.
 fn two_at(v: &[u8], i: usize) -> usize
     requires { ⌜ i < 1000 ⌝ }
-    ensures { λ r. ⌜ (r ≡ two (now (v .entry)) i) × (r < 3000) ⌝ }
+    ensures { λ r. ⌜ (r ≡ twoDigits (now (v .entry)) i) × (r < 3000) ⌝ }
 {
     digit_at(v, i) * 10 + digit_at(v, i + 1)
 }

@@ -1,3 +1,4 @@
+-- `message::knows` meets its contract. Assumes nothing.
 use lib.ListN.{List·getD-eq-default}
 use mathlib.Core.Path.{sym}
 use mathlib.Core.Bool.{false}

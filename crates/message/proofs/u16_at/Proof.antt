@@ -1,3 +1,4 @@
+-- `message::u16_at` meets its contract. Assumes nothing.
 use native.Mathlib.Omega.{arith}
 use Rattle.message.specs.Layout.{u16At}
 use borrow.Author.Needs.{needs}

@@ -1,19 +1,16 @@
 -- `values::code::is_notation` meets its contract. Assumes nothing.
-use mathlib.Core.Path.{refl, ap, _∙_}
-use denote.Ref.{now}
-use lib.Dec.{ltb}
-use lib.ListN.{length}
-use Rattle.octets.specs.Text.{text}
-use Rattle.octets.specs.Same.{oneOf}
-use Rattle.octets.proofs.SameLaws.{row, wide, among}
-use Rattle.values.specs.Code.{notationCodes, isNotation}
+use mathlib.Core.Path.{refl, _∙_}
 use borrow.Author.Needs.{needs}
+use denote.Ref.{now}
+use Rattle.octets.specs.Text.{text}
+use Rattle.octets.proofs.SameLaws.{row, wide, one-among}
+use Rattle.values.specs.Code.{notationCodes, isNotation}
 use Rattle.values.proofs.code.is_notation.Statement.{statement}
 use Rattle.values.proofs.code.is_notation.Tie as tie
 
 returns : tie.Need-returns
-unfolding isNotation oneOf row wide text
-returns c = ap (λ k. ltb k (length notationCodes)) (c .place-in .ensures ∙ among 1 notationCodes (now (c .before .before .before .args .v)) refl)
+unfolding isNotation row wide text
+returns c = c .one-of .ensures ∙ one-among 1 notationCodes (now (c .before .before .before .args .v)) refl
 
 pub is-notation-spec : {M : Type 1} → statement M
 is-notation-spec = tie.close (tie.spec (λ c. search needs) (λ c κs. search needs) returns)

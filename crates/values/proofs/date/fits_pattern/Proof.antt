@@ -8,22 +8,22 @@ use lib.ListN.{length}
 use denote.Ref.{now}
 use Rattle.octets.specs.Search.{allFrom}
 use Rattle.octets.proofs.SearchLaws.{all-more, all-stop, all-end, from-start}
-use Rattle.values.specs.Date.{fitsAt, fits}
+use Rattle.values.specs.Date.{fitsAt, fitsPattern}
 use Rattle.values.proofs.date.fits_pattern.Statement.{statement}
 use Rattle.values.proofs.date.fits_pattern.Tie as tie
 
 abbrev Inv-loop : tie.InvT-loop
-Inv-loop v p k₀ k = (k ≤ length v) × (length v ≡ length p) × (allFrom (fitsAt p v) k (length v - k) ≡ fits p v)
+Inv-loop v p k₀ k = (k ≤ length v) × (length v ≡ length p) × (allFrom (fitsAt p v) k (length v - k) ≡ fitsPattern p v)
 
 abbrev μ-loop : tie.MeasureT-loop
 μ-loop v p k₀ k = length v - k
 
 returns : tie.Need-returns Inv-loop μ-loop
-unfolding fits
+unfolding fitsPattern
 returns c = rw (ne-eqb _ _ (c .if1 .taken))
 
 loop-holds : tie.Need-loop-holds Inv-loop μ-loop
-unfolding fits
+unfolding fitsPattern
 loop-holds c = (search needs, c .if1 .left, rw (from-start, eq-eqb _ _ (c .if1 .left)))
 
 returns-2 : tie.Need-returns-2 Inv-loop μ-loop

@@ -7,13 +7,13 @@ use lib.Dec.{ltb}
 use denote.Ref.{now}
 use Rattle.octets.specs.Choice.{both}
 use Rattle.octets.specs.Text.{text}
-use Rattle.values.specs.Date.{two, isTime}
+use Rattle.values.specs.Date.{twoDigits, isTime}
 use borrow.Author.Needs.{needs}
 use Rattle.values.proofs.date.is_time.Statement.{statement}
 use Rattle.values.proofs.date.is_time.Tie as tie
 
 -- where the pattern fits and the date is one, hours, minutes and seconds decide
-dated : (c : tie.Else2) → isTime (now (c .before .before .before .before .before .before .args .v)) ≡ both (ltb (two (now (c .before .before .before .before .before .before .args .v)) 11) 24) (both (ltb (two (now (c .before .before .before .before .before .before .args .v)) 14) 60) (ltb (two (now (c .before .before .before .before .before .before .args .v)) 17) 60))
+dated : (c : tie.Else2) → isTime (now (c .before .before .before .before .before .before .args .v)) ≡ both (ltb (twoDigits (now (c .before .before .before .before .before .before .args .v)) 11) 24) (both (ltb (twoDigits (now (c .before .before .before .before .before .before .args .v)) 14) 60) (ltb (twoDigits (now (c .before .before .before .before .before .before .args .v)) 17) 60))
 unfolding isTime text
 dated c = rw (sym (c .before .before .before .fits-pattern .ensures) ∙ not-false _ (c .before .before .if1 .left), sym (c .before .names-date .ensures) ∙ not-false _ (c .if2 .left))
 
@@ -28,21 +28,21 @@ returns-2 c = rw (sym (c .before .before .before .fits-pattern .ensures) ∙ not
 returns-3 : tie.Need-returns-3
 returns-3 c =
     let v = now (c .before .before .before .before .before .before .before .before .args .v) in
-    let x : 24 ≤ two v 11 = omega arith in
+    let x : 24 ≤ twoDigits v 11 = omega arith in
     rw (dated (c .before .before), le-ltb _ _ x)
 
 returns-4 : tie.Need-returns-4
 returns-4 c =
     let v = now (c .before .before .before .before .before .before .before .before .before .before .args .v) in
-    let x : two v 11 < 24 = omega arith in
-    let y : 60 ≤ two v 14 = omega arith in
+    let x : twoDigits v 11 < 24 = omega arith in
+    let y : 60 ≤ twoDigits v 14 = omega arith in
     rw (dated (c .before .before .before .before), lt-ltb _ _ x, le-ltb _ _ y)
 
 returns-5 : tie.Need-returns-5
 returns-5 c =
     let v = now (c .before .before .before .before .before .before .before .before .before .before .before .args .v) in
-    let x : two v 11 < 24 = omega arith in
-    let y : two v 14 < 60 = omega arith in
+    let x : twoDigits v 11 < 24 = omega arith in
+    let y : twoDigits v 14 < 60 = omega arith in
     rw (dated (c .before .before .before .before .before), lt-ltb _ _ x, lt-ltb _ _ y) (ap (λ (n : ℕ). ltb n 60) (c .two-at3 .ensures .0))
 
 pub is-time-spec : {M : Type 1} → statement M

@@ -1,11 +1,11 @@
 -- `values::date::two_at` meets its contract. Assumes nothing.
-use Rattle.values.specs.Date.{two}
+use Rattle.values.specs.Date.{twoDigits}
 use borrow.Author.Needs.{needs}
 use Rattle.values.proofs.date.two_at.Statement.{statement}
 use Rattle.values.proofs.date.two_at.Tie as tie
 
 returns : tie.Need-returns
-unfolding two
+unfolding twoDigits
 returns c = search needs
 
 pub two-at-spec : {M : Type 1} → statement M

@@ -1,0 +1,81 @@
+"""promises.py PROMISES.md: every name that the document gives exists.
+
+A name stands in back quotes and is one of
+  crate::module::function          a function of crates/crate/src
+  crate/specs/File.antt#name       a definition; crate/proofs/File.antt#name: a law
+  crate/must-fail/label.edit       a must-fail edit of the gate
+  vectors#word                     lines of crates/vectors/stdin that open with the word
+Anything else in back quotes is an error, and so is a must-fail edit or a public function that the document does not name.
+"""
+
+import pathlib
+import re
+import sys
+
+CRATES = pathlib.Path("crates")
+
+
+def text(path):
+    return path.read_text(encoding="utf-8") if path.is_file() else None
+
+
+def function_exists(name):
+    """crate::f, or crate::module::f in src/module.rt; f may be re-exported."""
+    crate, *modules, function = name.split("::")
+    source = "lib.rt" if not modules else "/".join(modules) + ".rt"
+    files = [CRATES / crate / "src" / source]
+    if not modules:
+        files += sorted((CRATES / crate / "src").glob("*.rt"))
+    return any(re.search(r"^\s*(?:pub )?fn %s\b" % re.escape(function), text(f) or "", re.M) for f in files)
+
+
+def definition_exists(name):
+    path, _, word = name.partition("#")
+    return re.search(r"^\s*(?:abbrev |unfoldable )?pub (?:record |data )?%s(?=[\s:])" % re.escape(word), text(CRATES / path) or "", re.M)
+
+
+def vector_exists(name):
+    word = name.partition("#")[2]
+    return re.search(r"^%s\b" % re.escape(word), text(CRATES / "vectors" / "stdin"), re.M)
+
+
+def exists(name):
+    if name.startswith("vectors#"):
+        return vector_exists(name)
+    if re.fullmatch(r"[a-z_]+(::[a-z_0-9]+)+", name):
+        return function_exists(name)
+    if re.fullmatch(r"[a-z_]+/(specs|proofs)/[\w/]+\.antt#\S+", name):
+        return definition_exists(name)
+    if re.fullmatch(r"[a-z_]+/must-fail/\w+\.edit", name):
+        return (CRATES / name).is_file()
+    return False
+
+
+def public_functions():
+    """The functions that a library hands out: pub in lib.rt, or re-exported there."""
+    for lib in sorted(CRATES.glob("*/src/lib.rt")):
+        crate, source = lib.parts[1], text(lib)
+        for name in re.findall(r"^pub fn (\w+)", source, re.M):
+            yield "%s::%s" % (crate, name)
+        for module, name in re.findall(r"^pub use (\w+)::(\w+);", source, re.M):
+            if re.search(r"^pub fn %s\b" % name, text(lib.parent / (module + ".rt")), re.M):
+                yield "%s::%s::%s" % (crate, module, name)
+
+
+def main(path):
+    document = pathlib.Path(path).read_text(encoding="utf-8")
+    names = re.findall(r"`([^`\n]+)`", document)
+    faults = ["no such name: " + name for name in sorted(set(names)) if not exists(name)]
+    edits = ["%s/must-fail/%s" % (p.parts[1], p.name) for p in sorted(CRATES.glob("*/must-fail/*.edit"))]
+    faults += ["not in the document: " + name for name in edits + list(public_functions()) if name not in names]
+    for fault in faults:
+        print("%s: %s" % (path, fault), file=sys.stderr)
+    if faults:
+        sys.exit(1)
+    print("%s: %d names, each of them exists" % (path, len(set(names))))
+
+
+if __name__ == "__main__":
+    if len(sys.argv) != 2:
+        sys.exit(__doc__)
+    main(sys.argv[1])
