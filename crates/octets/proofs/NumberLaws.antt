@@ -1,4 +1,5 @@
 -- Laws of specs/Number.antt. Assumes nothing.
+use Prim.Native.Char.{code}
 use mathlib.Core.Path.{_≡_, refl, sym, ap, _∙_}
 use mathlib.Core.List.{List, [], _∷_, _++_, append-assoc}
 use Prim.Native.Nat.{ℕ, zero, suc, _+_, _-_, _*_, _/_, _%_, _^_, _≤_, _<_}
@@ -39,18 +40,18 @@ fromLe-toLe (suc n) v h =
 pub length-digits : (n v : ℕ) → length (digits n v) ≡ n
 unfolding digits
 length-digits zero v = refl
-length-digits (suc n) v = length-append (digits n (v / 10)) ((v % 10 + 48) ∷ []) ∙ rw (length-digits n (v / 10)) (add-one n)
+length-digits (suc n) v = length-append (digits n (v / 10)) ((v % 10 + code "0") ∷ []) ∙ rw (length-digits n (v / 10)) (add-one n)
 
 -- one digit more, written before those that stand from i on
-digit-at : (j v : ℕ) (l : List ℕ) → j < length l → digits (suc j) v ++ drop (suc j) l ≡ digits j (v / 10) ++ drop j (set l j (v % 10 + 48))
+digit-at : (j v : ℕ) (l : List ℕ) → j < length l → digits (suc j) v ++ drop (suc j) l ≡ digits j (v / 10) ++ drop j (set l j (v % 10 + code "0"))
 unfolding digits
 digit-at j v l h =
-    let d : ℕ = v % 10 + 48 in
+    let d : ℕ = v % 10 + code "0" in
     let k : length (take j l) ≡ j = length-take-le j l (omega arith) in
     append-assoc (digits j (v / 10)) (d ∷ []) (drop (suc j) l)
     ∙ ap (λ (r : List ℕ). digits j (v / 10) ++ r) (sym (drop-at (take j l) (d ∷ drop (suc j) l) j k) ∙ ap (drop j) (sym (set-split l j d h)))
 
-pub digit-more : (i v : ℕ) (l : List ℕ) → 0 < i → i ≤ length l → digits i v ++ drop i l ≡ digits (i - 1) (v / 10) ++ drop (i - 1) (set l (i - 1) (v % 10 + 48))
+pub digit-more : (i v : ℕ) (l : List ℕ) → 0 < i → i ≤ length l → digits i v ++ drop i l ≡ digits (i - 1) (v / 10) ++ drop (i - 1) (set l (i - 1) (v % 10 + code "0"))
 digit-more zero v l p h = absurd (not-suc-le-zero p)
 digit-more (suc j) v l p h =
     let e : suc j - 1 ≡ j = omega arith in

@@ -1,5 +1,6 @@
 -- Numbers in bytes: little-endian, and as decimal digits.
 use Prim.Native.Nat.{ℕ, zero, suc, _+_, _*_, _/_, _%_}
+use Prim.Native.Char.{code}
 use mathlib.Core.List.{List, [], _∷_, _++_}
 
 -- the number that bytes stand for, the lowest first
@@ -12,7 +13,7 @@ unfoldable pub toLe : ℕ → ℕ → List ℕ
 toLe zero v = []
 toLe (suc n) v = v % 256 ∷ toLe n (v / 256)
 
--- the last n decimal digits of v, zero padded, as text (48 is '0')
+-- the last n decimal digits of v, zero padded, as text
 unfoldable pub digits : ℕ → ℕ → List ℕ
 digits zero v = []
-digits (suc n) v = digits n (v / 10) ++ ((v % 10 + 48) ∷ [])
+digits (suc n) v = digits n (v / 10) ++ ((v % 10 + code "0") ∷ [])

@@ -131,7 +131,7 @@ pub fn write_digits(dst: &mut [u8], v: u64)
     let mut i = dst.len();
     while 0 < i {
         i -= 1;
-        dst[i] = (rest % 10 + 48) as u8;
+        dst[i] = (rest % 10) as u8 + b'0';
         rest = rest / 10;
     }
 }

@@ -22,9 +22,12 @@ fitsAt p v k = fitsByte (getD p k 0) (getD v k 0)
 unfoldable pub fitsPattern : List ℕ → List ℕ → Bool
 fitsPattern p v = both (eqb (length v) (length p)) (all (fitsAt p v) (length v))
 
--- the number of the two digits from i on
+-- the number of the digit at i, and of the two digits from i on
+abbrev pub digitAt : List ℕ → ℕ → ℕ
+digitAt v i = getD v i 0 - code "0"
+
 unfoldable pub twoDigits : List ℕ → ℕ → ℕ
-twoDigits v i = (getD v i 0 - code "0") * 10 + (getD v (i + 1) 0 - code "0")
+twoDigits v i = digitAt v i * 10 + digitAt v (i + 1)
 
 unfoldable pub leap : ℕ → Bool
 leap y = either (eqb (y % 400) 0) (both (eqb (y % 4) 0) (not (eqb (y % 100) 0)))

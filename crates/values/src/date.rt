@@ -1,8 +1,7 @@
 // Dates and times.
 ghost use mathlib.Core.Path.{_≡_};
-ghost use Prim.Native.Nat.{_-_, _<_};
-ghost use lib.ListN.{getD};
-ghost use Rattle.values.specs.Date.{fitsByte, fitsPattern, twoDigits, leap, daysIn, gregorian, namesDate, isDate, isTime};
+ghost use Prim.Native.Nat.{_<_};
+ghost use Rattle.values.specs.Date.{fitsByte, fitsPattern, digitAt, twoDigits, leap, daysIn, gregorian, namesDate, isDate, isTime};
 use crate::limits::FIRST_YEAR;
 use crate::run::Class;
 use crate::run::in_class;
@@ -38,7 +37,7 @@ fn fits_pattern(v: &[u8], p: &[u8]) -> bool
 
 // The number of the digit at i; what stands below the digits counts 0.
 fn digit_at(v: &[u8], i: usize) -> usize
-    ensures { λ r. ⌜ (r ≡ getD (now (v .entry)) i 0 - 48) × (r < 256) ⌝ }
+    ensures { λ r. ⌜ (r ≡ digitAt (now (v .entry)) i) × (r < 256) ⌝ }
 {
     let b = byte_at(v, i);
     if b < b'0' {

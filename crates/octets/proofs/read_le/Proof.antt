@@ -38,7 +38,7 @@ mul-v : tie.Need-mul-v Inv-loop μ-loop
 mul-v c = record { fits = omega (arith, room c) }
 
 add-v : tie.Need-add-v Inv-loop μ-loop
-add-v c = record { fits = room c }
+add-v c = record { fits = omega (arith, room c) }
 
 loop-again : tie.Need-loop-again Inv-loop μ-loop
 unfolding fromLe

@@ -18,7 +18,7 @@ abbrev μ-loop : tie.MeasureT-loop
 μ-loop a b i₀ i = i
 
 returns : tie.Need-returns Inv-loop μ-loop
-returns c = sym (same-false _ _ (λ e. c .if1 .taken (ap length e)))
+returns c = sym (same-false _ _ (λ e. omega (arith, ap length e, c .if1 .taken)))
 
 loop-holds : tie.Need-loop-holds Inv-loop μ-loop
 loop-holds c = (omega arith, c .if1 .left, λ k h l. omega arith)
@@ -26,7 +26,7 @@ loop-holds c = (omega arith, c .if1 .left, λ k h l. omega arith)
 returns-2 : tie.Need-returns-2 Inv-loop μ-loop
 returns-2 c =
     let at = c .before .before .before .before in
-    sym (same-false _ _ (λ e. c .if2 .taken (ap (λ l. getD l (at .loop .i - 1) 0) e)))
+    sym (same-false _ _ (λ e. omega (arith, ap (λ l. getD l (at .loop .i - 1) 0) e, c .if2 .taken)))
 
 loop-again : tie.Need-loop-again Inv-loop μ-loop
 loop-again c =

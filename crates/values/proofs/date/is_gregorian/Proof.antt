@@ -1,7 +1,9 @@
 -- `values::date::is_gregorian` meets its contract. Assumes nothing.
-use Prim.Native.Nat.{ℕ}
+use Prim.Native.Nat.{ℕ, _<_, _≤_}
+use native.Mathlib.Omega.{arith}
 use mathlib.Core.Path.{sym, ap, _∙_}
 use borrow.Author.Tests.{lt-leb, le-leb, not-true, not-false}
+use Rattle.values.specs.Limits.{firstYear}
 use Rattle.values.specs.Run.{within}
 use Rattle.values.specs.Date.{gregorian}
 use borrow.Author.Needs.{needs}
@@ -10,16 +12,21 @@ use Rattle.values.proofs.date.is_gregorian.Tie as tie
 
 returns : tie.Need-returns
 unfolding gregorian
-returns c = rw (lt-leb _ _ (c .if1 .taken))
+returns c =
+    let h : c .before .args .y < firstYear = omega arith in
+    rw (lt-leb _ _ h)
 
 returns-2 : tie.Need-returns-2
 unfolding gregorian
-returns-2 c = rw (le-leb _ _ (c .before .before .if1 .left), sym (c .before .is-within .ensures) ∙ not-true _ (c .if2 .taken))
+returns-2 c =
+    let h : firstYear ≤ c .before .before .before .args .y = omega arith in
+    rw (le-leb _ _ h, sym (c .before .is-within .ensures) ∙ not-true _ (c .if2 .taken))
 
 returns-3 : tie.Need-returns-3
 unfolding gregorian
 returns-3 c =
-    rw (le-leb _ _ (c .before .before .before .before .if1 .left), sym (c .before .before .before .is-within .ensures) ∙ not-false _ (c .before .before .if2 .left))
+    let h : firstYear ≤ c .before .before .before .before .before .args .y = omega arith in
+    rw (le-leb _ _ h, sym (c .before .before .before .is-within .ensures) ∙ not-false _ (c .before .before .if2 .left))
     (c .is-within2 .ensures ∙ ap (λ (n : ℕ). within 1 n (c .before .before .before .before .before .args .d)) (c .before .days-in .ensures))
 
 pub is-gregorian-spec : {M : Type 1} → statement M
