@@ -1,6 +1,4 @@
 pub mod Limits
 pub mod Run
 pub mod Code
-pub mod Number
-pub mod Date
 pub mod Lei

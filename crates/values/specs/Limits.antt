@@ -19,23 +19,6 @@ currencySize = 3
 abbrev pub locationSize : ℕ
 locationSize = 2
 
--- code 17: digits in all and after the point
-abbrev pub priceDigits : ℕ
-priceDigits = 18
-
-abbrev pub priceDecimals : ℕ
-priceDecimals = 13
-
--- code 20: Num(25,5)
-abbrev pub notionalDigits : ℕ
-notionalDigits = 25
-
-abbrev pub notionalDecimals : ℕ
-notionalDecimals = 5
-
-abbrev pub firstYear : ℕ
-firstYear = 1900
-
 -- an LEI's characters before its two check digits, and the divisor
 abbrev pub leiBody : ℕ
 leiBody = 18

@@ -1,10 +1,8 @@
-// The forms of values: document 01, 'Elements', the column 'Form' and the list under the table.
-// Each form is a test of any bytes; everything is matched byte for byte.
+// The forms of values that are text: document 01, 'Elements', runs of characters of one class, codes and LEIs.
+// Each form is a test of any bytes; everything is matched byte for byte. Numbers and dates have crates of their own.
 mod code;
-mod date;
 mod lei;
 mod limits;
-mod number;
 mod run;
 
 pub use code::is_allocation;
@@ -14,18 +12,14 @@ pub use code::is_code;
 pub use code::is_notation;
 pub use code::is_true;
 pub use code::is_truth;
-pub use date::is_date;
-pub use date::is_time;
 pub use lei::is_lei;
 pub use limits::EVENT_SIZE;
-pub use number::decimals_of;
-pub use number::is_notional;
-pub use number::is_number;
-pub use number::is_price;
-pub use number::unsigned_of;
-pub use number::whole_of;
+pub use run::Class;
+pub use run::in_class;
 pub use run::is_currency;
 pub use run::is_event;
 pub use run::is_location;
 pub use run::is_package_identifier;
 pub use run::is_uti;
+pub use run::is_within;
+pub use run::run_of;

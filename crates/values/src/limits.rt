@@ -11,16 +11,6 @@ pub const CURRENCY_SIZE: usize = 3;
 
 pub const LOCATION_SIZE: usize = 2;
 
-pub const PRICE_DIGITS: usize = 18;
-
-pub const PRICE_DECIMALS: usize = 13;
-
-pub const NOTIONAL_DIGITS: usize = 25;
-
-pub const NOTIONAL_DECIMALS: usize = 5;
-
-pub const FIRST_YEAR: usize = 1900;
-
 pub const LEI_BODY: usize = 18;
 
 pub const LEI_CHECK: usize = 2;

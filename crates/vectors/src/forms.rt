@@ -84,16 +84,16 @@ fn is_action(v: &[u8]) -> bool {
 
 fn of_number(word: &[u8], v: &[u8]) -> Told {
     if same(word, b"price") {
-        return Told::Test(values::is_price(v));
+        return Told::Test(numbers::is_price(v));
     }
     if same(word, b"notional") {
-        return Told::Test(values::is_notional(v));
+        return Told::Test(numbers::is_notional(v));
     }
     if same(word, b"date") {
-        return Told::Test(values::is_date(v));
+        return Told::Test(dates::is_date(v));
     }
     if same(word, b"time") {
-        return Told::Test(values::is_time(v));
+        return Told::Test(dates::is_time(v));
     }
     if same(word, b"lei") {
         return Told::Test(values::is_lei(v));

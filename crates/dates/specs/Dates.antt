@@ -1,0 +1,57 @@
+-- Document 01, 'Elements': dates, YYYY-MM-DD, and times, YYYY-MM-DDThh:mm:ssZ.
+use Prim.Native.Nat.{ℕ, _+_, _-_, _*_, _%_}
+use Prim.Native.Char.{code}
+use mathlib.Core.Bool.{Bool, not}
+use mathlib.Core.List.{List}
+use lib.ListN.{length, getD}
+use lib.Dec.{ltb, leb, eqb}
+use Rattle.octets.specs.Choice.{choose, both, either}
+use Rattle.octets.specs.Search.{all}
+use Rattle.octets.specs.Text.{text}
+use Rattle.values.specs.Run.{within, inClass}
+use Rattle.values.specs.declared.run.Class.the-variants.{Digit}
+
+abbrev pub firstYear : ℕ
+firstYear = 1900
+
+-- a byte fits a place of a pattern, in which 0 stands for any digit and any other byte for itself
+abbrev pub fitsByte : ℕ → ℕ → Bool
+fitsByte p b = choose (eqb p (code "0")) (inClass Digit b) (eqb b p)
+
+abbrev pub fitsAt : List ℕ → List ℕ → ℕ → Bool
+fitsAt p v k = fitsByte (getD p k 0) (getD v k 0)
+
+unfoldable pub fitsPattern : List ℕ → List ℕ → Bool
+fitsPattern p v = both (eqb (length v) (length p)) (all (fitsAt p v) (length v))
+
+-- the number of the digit at i, and of the two digits from i on
+abbrev pub digitAt : List ℕ → ℕ → ℕ
+digitAt v i = getD v i 0 - code "0"
+
+unfoldable pub twoDigits : List ℕ → ℕ → ℕ
+twoDigits v i = digitAt v i * 10 + digitAt v (i + 1)
+
+unfoldable pub leap : ℕ → Bool
+leap y = either (eqb (y % 400) 0) (both (eqb (y % 4) 0) (not (eqb (y % 100) 0)))
+
+unfoldable pub daysIn : ℕ → ℕ → ℕ
+daysIn y m =
+    choose (eqb m 2) (choose (leap y) 29 28)
+    (choose (either (eqb m 4) (either (eqb m 6) (either (eqb m 9) (eqb m 11)))) 30 31)
+
+-- year, month and day are a Gregorian date, from 1900 on
+unfoldable pub gregorian : ℕ → ℕ → ℕ → Bool
+gregorian y m d = both (leb firstYear y) (both (within 1 12 m) (within 1 (daysIn y m) d))
+
+-- the first ten bytes name a date
+unfoldable pub namesDate : List ℕ → Bool
+namesDate v = gregorian (twoDigits v 0 * 100 + twoDigits v 2) (twoDigits v 5) (twoDigits v 8)
+
+unfoldable pub isDate : List ℕ → Bool
+isDate v = both (fitsPattern (text "0000-00-00") v) (namesDate v)
+
+-- hours 00 to 23, minutes and seconds 00 to 59
+unfoldable pub isTime : List ℕ → Bool
+isTime v =
+    both (fitsPattern (text "0000-00-00T00:00:00Z") v)
+    (both (namesDate v) (both (ltb (twoDigits v 11) 24) (both (ltb (twoDigits v 14) 60) (ltb (twoDigits v 17) 60))))
