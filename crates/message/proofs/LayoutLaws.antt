@@ -5,7 +5,7 @@ use mathlib.Core.Path.{_≡_, refl, sym, ap, _∙_}
 use mathlib.Core.Bool.{Bool, true, false}
 use mathlib.Core.List.{List, [], _++_, append-nil}
 use native.Mathlib.Omega.{arith}
-use native.Mathlib.Nat.{zero-add}
+use native.Mathlib.Nat.{zero-add, sub-zero}
 use native.Mathlib.Numerals.{add-one}
 use lib.Dec.{ltb, leb, eqb}
 use lib.ListN.{length, getD, take, drop, length-take, length-drop, take-append-drop}
@@ -14,7 +14,7 @@ use borrow.Author.Tests.{ltb-true, ltb-false, lt-ltb, le-ltb, eqb-true, eq-eqb, 
 use Rattle.octets.specs.Choice.{choose, both}
 use Rattle.octets.specs.Search.{firstFrom, all}
 use Rattle.octets.proofs.ChoiceLaws.{both-first, both-second}
-use Rattle.octets.proofs.SearchLaws.{all-at, first-le, first-passes, from-start}
+use Rattle.octets.proofs.SearchLaws.{all-at, first-le, first-passes}
 use Rattle.message.specs.Layout.{countSize, count, codeAt, offsetAt, headerSize, entryRight, layoutRight}
 use Rattle.message.specs.Values.{entryFrom, endOf, valueAt, value, valuesFrom}
 
@@ -114,7 +114,7 @@ module _ (longest most : ℕ) (known : List Bool) (m : List ℕ) (right : layout
   unfolding value entryFrom
   missing code e k h p =
       let f : ℕ → Bool = λ j. eqb (codeAt m j) code in
-      let l : firstFrom f 0 (count m - 0) ≤ 0 + k = rw from-start (first-le f 0 (count m) k h (rw zero-add (eq-eqb _ _ p))) in
+      let l : firstFrom f 0 (count m - 0) ≤ 0 + k = rw sub-zero (first-le f 0 (count m) k h (rw zero-add (eq-eqb _ _ p))) in
       let filled : 0 < length (value code m) = value-filled (firstFrom f 0 (count m - 0)) (omega arith) in
       omega (arith, ap length e)
 
@@ -135,7 +135,7 @@ module _ (longest most : ℕ) (known : List Bool) (m : List ℕ) (right : layout
       let j : ℕ = firstFrom f 0 (count m) in
       let l : j ≤ 0 + k = first-le f 0 (count m) k h (rw zero-add (eq-eqb (codeAt m k) (codeAt m k) refl)) in
       let e : codeAt m j ≡ codeAt m k = eqb-true (codeAt m j) (codeAt m k) (first-passes f 0 (count m) (omega arith)) in
-      rw from-start (by j l e (ltb j k) refl)
+      rw sub-zero (by j l e (ltb j k) refl)
     where
       by : (j : ℕ) → j ≤ 0 + k → codeAt m j ≡ codeAt m k → (t : Bool) → ltb j k ≡ t → j ≡ k
       by j l e true lt =

@@ -7,30 +7,28 @@ use mathlib.Core.Bool.{Bool, true, false}
 use mathlib.Core.Path.{_≡_, refl}
 use Rattle.octets.specs.Choice.{choose}
 use Rattle.octets.specs.Search.{firstFrom, allFrom}
+use Rattle.octets.proofs.WriteLaws.{left-one}
 use Rattle.octets.proofs.ChoiceLaws.{both-first, both-second}
-
-left : (k n : ℕ) → k < n → n - k ≡ suc (n - (k + 1))
-left k n h = omega arith
 
 -- a turn of the loop at k
 module _ (f : ℕ → Bool) (k n : ℕ) (h : k < n) where
   pub first-more : f k ≡ false → firstFrom f k (n - k) ≡ firstFrom f (k + 1) (n - (k + 1))
   unfolding firstFrom
-  first-more e = rw (left k n h, e, ← add-one k)
+  first-more e = rw (left-one n k h, e, ← add-one k)
 
   pub first-stop : f k ≡ true → firstFrom f k (n - k) ≡ k
   unfolding firstFrom
-  first-stop e = rw (left k n h, e)
+  first-stop e = rw (left-one n k h, e)
 
   pub all-more : f k ≡ true → allFrom f k (n - k) ≡ allFrom f (k + 1) (n - (k + 1))
   unfolding allFrom
-  all-more e = rw (left k n h, e, ← add-one k)
+  all-more e = rw (left-one n k h, e, ← add-one k)
 
   pub all-stop : f k ≡ false → allFrom f k (n - k) ≡ false
   unfolding allFrom
-  all-stop e = rw (left k n h, e)
+  all-stop e = rw (left-one n k h, e)
 
--- the loop's end and its start
+-- the loop's end
 module _ (f : ℕ → Bool) (k n : ℕ) (h : n ≤ k) where
   none-left : n - k ≡ 0
   none-left = omega arith
@@ -42,9 +40,6 @@ module _ (f : ℕ → Bool) (k n : ℕ) (h : n ≤ k) where
   pub all-end : allFrom f k (n - k) ≡ true
   unfolding allFrom
   all-end = rw none-left
-
-pub from-start : (n : ℕ) → n - 0 ≡ n
-from-start n = omega arith
 
 -- what a test of a range tells of a number in it
 pub all-at : (f : ℕ → Bool) (k d i : ℕ) → i < d → allFrom f k d ≡ true → f (k + i) ≡ true

@@ -1,77 +1,42 @@
-// The forms of values, by their words.
+// The forms of values, by their place in the list of words.
 use crate::hex;
-use octets::same;
 
 const LONGEST_MESSAGE: usize = 2048;
 
-// What a form's test answered, or that the word is not one of these.
-enum Told {
-    Other,
-    Test(bool),
+pub const COUNT: usize = 17;
+
+// The place of a word among those of the forms, or their number.
+pub fn place(word: &[u8]) -> usize {
+    crate::place_in(
+        word,
+        b"uti event package currency location truth cleared allocation notation class lei price notional date time action layout",
+    )
 }
 
-pub fn answer(word: &[u8], v: &[u8]) {
-    let run = of_run(word, v);
-    if let Told::Test(b) = run {
-        hex::say_test(b);
-        return;
-    }
-    let code = of_code(word, v);
-    if let Told::Test(b) = code {
-        hex::say_test(b);
-        return;
-    }
-    let number = of_number(word, v);
-    if let Told::Test(b) = number {
-        hex::say_test(b);
-        return;
-    }
-    if same(word, b"layout") {
-        hex::say_test(actions::has_layout(v, LONGEST_MESSAGE));
-        return;
-    }
-    hex::say(b"?");
+pub fn answer(place: usize, v: &[u8]) {
+    hex::say_test(has_form(place, v));
 }
 
-fn of_run(word: &[u8], v: &[u8]) -> Told {
-    if same(word, b"uti") {
-        return Told::Test(values::is_uti(v));
+fn has_form(place: usize, v: &[u8]) -> bool {
+    match place {
+        0 => values::is_uti(v),
+        1 => values::is_event(v),
+        2 => values::is_package_identifier(v),
+        3 => values::is_currency(v),
+        4 => values::is_location(v),
+        5 => values::is_truth(v),
+        6 => values::is_cleared(v),
+        7 => values::is_allocation(v),
+        8 => values::is_notation(v),
+        9 => values::is_asset_class(v),
+        10 => values::is_lei(v),
+        11 => numbers::is_price(v),
+        12 => numbers::is_notional(v),
+        13 => dates::is_date(v),
+        14 => dates::is_time(v),
+        15 => is_action(v),
+        _ => actions::has_layout(v, LONGEST_MESSAGE),
     }
-    if same(word, b"event") {
-        return Told::Test(values::is_event(v));
-    }
-    if same(word, b"package") {
-        return Told::Test(values::is_package_identifier(v));
-    }
-    if same(word, b"currency") {
-        return Told::Test(values::is_currency(v));
-    }
-    if same(word, b"location") {
-        return Told::Test(values::is_location(v));
-    }
-    Told::Other
-}
-
-fn of_code(word: &[u8], v: &[u8]) -> Told {
-    if same(word, b"truth") {
-        return Told::Test(values::is_truth(v));
-    }
-    if same(word, b"cleared") {
-        return Told::Test(values::is_cleared(v));
-    }
-    if same(word, b"allocation") {
-        return Told::Test(values::is_allocation(v));
-    }
-    if same(word, b"notation") {
-        return Told::Test(values::is_notation(v));
-    }
-    if same(word, b"class") {
-        return Told::Test(values::is_asset_class(v));
-    }
-    if same(word, b"action") {
-        return Told::Test(is_action(v));
-    }
-    Told::Other
 }
 
 fn is_action(v: &[u8]) -> bool {
@@ -80,23 +45,4 @@ fn is_action(v: &[u8]) -> bool {
         return true;
     }
     false
-}
-
-fn of_number(word: &[u8], v: &[u8]) -> Told {
-    if same(word, b"price") {
-        return Told::Test(numbers::is_price(v));
-    }
-    if same(word, b"notional") {
-        return Told::Test(numbers::is_notional(v));
-    }
-    if same(word, b"date") {
-        return Told::Test(dates::is_date(v));
-    }
-    if same(word, b"time") {
-        return Told::Test(dates::is_time(v));
-    }
-    if same(word, b"lei") {
-        return Told::Test(values::is_lei(v));
-    }
-    Told::Other
 }

@@ -53,22 +53,50 @@ fn answer_line(line: &[u8]) {
     hex::say(b"\n");
 }
 
-// What a word asks of the rest of its line. A rest that opens with # is hexadecimal.
+// The place of a word in a list of words with a space between them, or their number where the list has it not.
+fn place_in(word: &[u8], words: &[u8]) -> usize {
+    let mut at: usize = 0;
+    let mut place: usize = 0;
+    while at < words.len() {
+        let rest = part_of(words, at, words.len());
+        let n = place_of(rest, b' ');
+        if octets::same(word, part_of(rest, 0, n)) {
+            return place;
+        }
+        at = at + n + 1;
+        place += 1;
+    }
+    place
+}
+
+// What a word asks of the rest of its line.
 fn answer(word: &[u8], rest: &[u8]) {
-    if tables::answered(word, rest) {
+    let form = forms::place(word);
+    if form < forms::COUNT {
+        answer_form(form, rest);
+        return;
+    }
+    let table = tables::place(word);
+    if table < tables::COUNT {
+        tables::answer(table, rest);
         return;
     }
     if octets::same(word, b"element") {
         answer_element(rest);
         return;
     }
+    hex::say(b"?");
+}
+
+// A rest that opens with # is hexadecimal.
+fn answer_form(form: usize, rest: &[u8]) {
     if octets::byte_at(rest, 0) == b'#' {
         let mut bytes = [0u8; hex::LONGEST];
         let n = hex::decode(part_of(rest, 1, rest.len()), &mut bytes);
-        forms::answer(word, part_of(&bytes, 0, n));
+        forms::answer(form, part_of(&bytes, 0, n));
         return;
     }
-    forms::answer(word, rest);
+    forms::answer(form, rest);
 }
 
 // The rest is a code, a space, # and a message.

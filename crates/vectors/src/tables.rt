@@ -1,9 +1,11 @@
-// The tables of actions, by their words. The rest of a line is an action and, after a space, what the table is asked of.
+// The tables of actions, by their place in the list of words. The rest of a line is an action and, after a space, what the table
+// is asked of.
 ghost use Prim.Native.Nat.{_<_};
 use crate::hex;
 use octets::byte_at;
 use octets::part_of;
-use octets::same;
+
+pub const COUNT: usize = 5;
 
 // The size of an action's code.
 const ACTION: usize = 4;
@@ -26,54 +28,32 @@ fn digit_of(b: u8) -> u16
     (b - b'0') as u16
 }
 
-fn is_table(word: &[u8]) -> bool {
-    if same(word, b"pair") {
-        return true;
-    }
-    if same(word, b"step") {
-        return true;
-    }
-    if same(word, b"takes") {
-        return true;
-    }
-    if same(word, b"needs") {
-        return true;
-    }
-    same(word, b"line")
+// The place of a word among those of the tables, or their number.
+pub fn place(word: &[u8]) -> usize {
+    crate::place_in(word, b"pair step takes needs line")
 }
 
-// Answers where the word is a table's, and says whether it was.
-pub fn answered(word: &[u8], rest: &[u8]) -> bool {
-    if !is_table(word) {
-        return false;
-    }
+pub fn answer(place: usize, rest: &[u8]) {
     let read = actions::read_action(part_of(rest, 0, ACTION));
     let actions::ActionRead::Value(a) = read else {
         hex::say(b"?");
-        return true;
-    };
-    answer(word, a, part_of(rest, ACTION + 1, rest.len()));
-    true
-}
-
-fn answer(word: &[u8], a: actions::Action, asked: &[u8]) {
-    if same(word, b"pair") {
-        hex::say_test(actions::is_pair(a, asked));
         return;
-    }
-    if same(word, b"step") {
+    };
+    let asked = part_of(rest, ACTION + 1, rest.len());
+    if place == 1 {
         say_status(actions::status_after(a, byte_at(asked, 0) % 16));
         return;
     }
-    if same(word, b"takes") {
-        hex::say_test(actions::is_taken(a, number_of(asked) as usize));
-        return;
+    hex::say_test(holds(place, a, asked));
+}
+
+fn holds(place: usize, a: actions::Action, asked: &[u8]) -> bool {
+    match place {
+        0 => actions::is_pair(a, asked),
+        2 => actions::is_taken(a, number_of(asked) as usize),
+        3 => actions::is_needed(a, number_of(asked) as usize),
+        _ => actions::writes_line(a),
     }
-    if same(word, b"needs") {
-        hex::say_test(actions::is_needed(a, number_of(asked) as usize));
-        return;
-    }
-    hex::say_test(actions::writes_line(a));
 }
 
 // A status, or - where no step exists.

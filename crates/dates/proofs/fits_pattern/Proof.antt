@@ -2,12 +2,13 @@
 use borrow.Author.Needs.{needs}
 use Prim.Native.Nat.{_-_, _<_, _≤_}
 use mathlib.Core.Path.{_≡_, sym, _∙_}
+use native.Mathlib.Nat.{sub-zero}
 use native.Mathlib.Omega.{arith}
 use borrow.Author.Tests.{eq-eqb, ne-eqb, not-true, not-false}
 use lib.ListN.{length}
 use denote.Ref.{now}
 use Rattle.octets.specs.Search.{allFrom}
-use Rattle.octets.proofs.SearchLaws.{all-more, all-stop, all-end, from-start}
+use Rattle.octets.proofs.SearchLaws.{all-more, all-stop, all-end}
 use Rattle.dates.specs.Dates.{fitsAt, fitsPattern}
 use Rattle.dates.proofs.fits_pattern.Statement.{statement}
 use Rattle.dates.proofs.fits_pattern.Tie as tie
@@ -24,7 +25,7 @@ returns c = rw (ne-eqb _ _ (c .if1 .taken))
 
 loop-holds : tie.Need-loop-holds Inv-loop μ-loop
 unfolding fitsPattern
-loop-holds c = (search needs, c .if1 .left, rw (from-start, eq-eqb _ _ (c .if1 .left)))
+loop-holds c = (search needs, c .if1 .left, rw (sub-zero, eq-eqb _ _ (c .if1 .left)))
 
 returns-2 : tie.Need-returns-2 Inv-loop μ-loop
 returns-2 c =

@@ -2,11 +2,12 @@
 use borrow.Author.Needs.{needs}
 use Prim.Native.Nat.{_-_, _<_, _≤_}
 use mathlib.Core.Path.{_≡_, sym, _∙_}
+use native.Mathlib.Nat.{sub-zero}
 use native.Mathlib.Omega.{arith}
 use borrow.Author.Tests.{le-leb, lt-leb, eq-eqb, ne-eqb, not-true, not-false}
 use denote.Ref.{now}
 use Rattle.octets.specs.Search.{allFrom}
-use Rattle.octets.proofs.SearchLaws.{all-more, all-stop, all-end, from-start}
+use Rattle.octets.proofs.SearchLaws.{all-more, all-stop, all-end}
 use Rattle.message.specs.Layout.{count, entryRight, layoutRight}
 use Rattle.message.proofs.layout_right.Statement.{statement}
 use Rattle.message.proofs.layout_right.Tie as tie
@@ -49,7 +50,7 @@ loop-holds c =
       omega arith,
       omega arith,
       omega arith,
-      rw (from-start, le-leb _ _ (c .before .before .before .before .if1 .left), le-leb _ _ (c .before .before .before .if2 .left), le-leb _ _ r, ne-eqb _ _ z),
+      rw (sub-zero, le-leb _ _ (c .before .before .before .before .if1 .left), le-leb _ _ (c .before .before .before .if2 .left), le-leb _ _ r, ne-eqb _ _ z),
     )
 
 returns-5 : tie.Need-returns-5 Inv-loop μ-loop

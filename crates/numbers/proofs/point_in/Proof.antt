@@ -5,13 +5,14 @@ use Prim.Native.Char.{code}
 use mathlib.Core.Bool.{Bool}
 use mathlib.Core.List.{List}
 use mathlib.Core.Path.{_≡_, sym, _∙_}
+use native.Mathlib.Nat.{sub-zero}
 use native.Mathlib.Omega.{arith}
 use borrow.Author.Tests.{eq-eqb, ne-eqb}
 use lib.ListN.{length, getD}
 use lib.Dec.{eqb}
 use denote.Ref.{now}
 use Rattle.octets.specs.Search.{firstFrom}
-use Rattle.octets.proofs.SearchLaws.{first-more, first-stop, first-end, from-start}
+use Rattle.octets.proofs.SearchLaws.{first-more, first-stop, first-end}
 use Rattle.numbers.specs.Numbers.{pointIn}
 use Rattle.numbers.proofs.point_in.Statement.{statement}
 use Rattle.numbers.proofs.point_in.Tie as tie
@@ -27,7 +28,7 @@ abbrev μ-loop : tie.MeasureT-loop
 
 loop-holds : tie.Need-loop-holds Inv-loop μ-loop
 unfolding pointIn
-loop-holds c = (search needs, rw from-start)
+loop-holds c = (search needs, rw sub-zero)
 
 returns : tie.Need-returns Inv-loop μ-loop
 returns c =

@@ -4,14 +4,14 @@ use mathlib.Core.Bool.{Bool}
 use mathlib.Core.List.{List}
 use mathlib.Core.Path.{_≡_, sym, ap, _∙_}
 use native.Mathlib.Omega.{arith}
-use native.Mathlib.Nat.{mul-le-mul-right}
+use native.Mathlib.Nat.{mul-le-mul-right, sub-zero}
 use borrow.Author.Needs.{needs}
 use denote.Ref.{now}
 use lib.ListN.{length}
 use Rattle.octets.specs.Part.{part}
 use Rattle.octets.specs.Search.{firstFrom}
 use Rattle.octets.specs.Same.{sameBytes, placeAmong}
-use Rattle.octets.proofs.SearchLaws.{first-more, first-stop, first-end, from-start}
+use Rattle.octets.proofs.SearchLaws.{first-more, first-stop, first-end}
 use Rattle.octets.proofs.place_in.Statement.{statement}
 use Rattle.octets.proofs.place_in.Tie as tie
 
@@ -30,7 +30,7 @@ told c = ap (sameBytes _) (sym (c .before .part-of .ensures .0)) ∙ sym (c .sam
 
 loop-holds : tie.Need-loop-holds Inv-loop μ-loop
 unfolding placeAmong
-loop-holds c = (search needs, c .before .before .pre, rw from-start)
+loop-holds c = (search needs, c .before .before .pre, rw sub-zero)
 
 mul-part-of : tie.Need-mul-part-of Inv-loop μ-loop
 mul-part-of c =

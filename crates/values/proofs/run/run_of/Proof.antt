@@ -4,12 +4,13 @@ use Prim.Native.Nat.{ℕ, _-_, _<_, _≤_}
 use mathlib.Core.Bool.{Bool}
 use mathlib.Core.List.{List}
 use mathlib.Core.Path.{_≡_, sym, _∙_}
+use native.Mathlib.Nat.{sub-zero}
 use native.Mathlib.Omega.{arith}
 use borrow.Author.Tests.{lt-leb, le-leb, not-true, not-false}
 use lib.ListN.{length, getD}
 use denote.Ref.{now}
 use Rattle.octets.specs.Search.{allFrom}
-use Rattle.octets.proofs.SearchLaws.{all-more, all-stop, all-end, from-start}
+use Rattle.octets.proofs.SearchLaws.{all-more, all-stop, all-end}
 use Rattle.values.specs.declared.run.Class.{Class}
 use Rattle.values.specs.Run.{inClass, runOf}
 use Rattle.values.proofs.run.run_of.Statement.{statement}
@@ -34,7 +35,7 @@ returns-2 c = rw (le-leb _ _ (c .before .if1 .left), lt-leb _ _ (c .if2 .taken))
 
 loop-holds : tie.Need-loop-holds Inv-loop μ-loop
 unfolding runOf
-loop-holds c = (search needs, rw (from-start, le-leb _ _ (c .before .if1 .left), le-leb _ _ (c .if2 .left)))
+loop-holds c = (search needs, rw (sub-zero, le-leb _ _ (c .before .if1 .left), le-leb _ _ (c .if2 .left)))
 
 returns-3 : tie.Need-returns-3 Inv-loop μ-loop
 returns-3 c =
