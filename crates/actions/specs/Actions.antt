@@ -6,8 +6,8 @@ use mathlib.Core.List.{List, [], _∷_}
 use Rattle.octets.specs.Same.{beside}
 use Rattle.actions.specs.declared.Action.{Action}
 use Rattle.actions.specs.declared.Action.the-variants.{Newt, Modi, Corr, Term, Eror, Revi, Prto}
-use Rattle.actions.specs.declared.ActionRead.{ActionRead}
-use Rattle.actions.specs.declared.ActionRead.the-variants.{Fault, Value}
+use Rattle.actions.specs.declared.Checked.{Checked}
+use Rattle.actions.specs.declared.Checked.the-variants.{Fault, Value}
 
 -- the actions, in the order of the tables, and each one's row
 abbrev pub allActions : List Action
@@ -27,7 +27,7 @@ abbrev pub actionCode : ℕ
 actionCode = 2
 
 -- codes are matched byte for byte; TERM is not term
-abbrev pub actionCodes : List (String × ActionRead)
+abbrev pub actionCodes : List (String × Checked)
 actionCodes =
     ("NEWT", Value Newt)
     ∷ ("MODI", Value Modi)
@@ -39,7 +39,7 @@ actionCodes =
     ∷ []
 
 -- what the value of the element says: one of the seven, or the element is at fault
-unfoldable pub actionOf : List ℕ → ActionRead
+unfoldable pub actionOf : List ℕ → Checked
 actionOf v = beside actionCodes (Fault actionCode) v
 
 -- "full" means messages whose action is NEWT, MODI, CORR or REVI

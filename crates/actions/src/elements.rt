@@ -5,9 +5,10 @@ ghost use Rattle.actions.specs.Elements.{columnOf, hasLayout, takes, nee
 use crate::Action;
 use crate::N;
 use crate::Y;
+use crate::is_full;
 use message::layout_right;
 
-const LAST_CODE: usize = 25;
+pub const LAST_CODE: usize = 25;
 
 const CODES: usize = LAST_CODE + 1;
 
@@ -54,15 +55,10 @@ pub fn has_layout(m: &[u8], longest: usize) -> bool
 fn column_of(a: Action) -> usize
     ensures { λ r. ⌜ (r ≡ columnOf a) × (r ≤ 2) ⌝ }
 {
-    match a {
-        Action::Newt => 0,
-        Action::Modi => 0,
-        Action::Corr => 0,
-        Action::Term => 2,
-        Action::Eror => 2,
-        Action::Revi => 0,
-        Action::Prto => 2,
+    if is_full(a) {
+        return 0;
     }
+    2
 }
 
 // Whether a message of the action may have the element.

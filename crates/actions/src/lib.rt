@@ -3,6 +3,7 @@ mod elements;
 mod matrix;
 mod statuses;
 
+pub use elements::LAST_CODE;
 pub use elements::has_layout;
 pub use elements::is_needed;
 pub use elements::is_taken;
@@ -11,7 +12,7 @@ pub use statuses::status_after;
 ghost use mathlib.Core.Path.{_≡_};
 ghost use Prim.Native.Nat.{_<_};
 ghost use lib.ListN.{length};
-ghost use Rattle.actions.specs.Actions.{allActions, rowOf, writesLine, actionOf};
+ghost use Rattle.actions.specs.Actions.{allActions, rowOf, isFull, writesLine, actionOf};
 use values::is_code;
 
 pub enum Action {
@@ -24,8 +25,8 @@ pub enum Action {
     Prto,
 }
 
-// The action of a message, or the code of the element at fault.
-pub enum ActionRead {
+// What a check answers: the code of the element at fault, or the message's action, with which the next check goes on.
+pub enum Checked {
     Fault(u8),
     Value(Action),
 }
@@ -38,34 +39,34 @@ const N: bool = false;
 const ACTIONS: usize = 7;
 
 // The code of the element that holds the action.
-const ACTION_CODE: u8 = 2;
+pub const ACTION_CODE: u8 = 2;
 
 // What the value of element 2 says.
-pub fn read_action(v: &[u8]) -> ActionRead
+pub fn read_action(v: &[u8]) -> Checked
     ensures { λ r. ⌜ r ≡ actionOf (now (v .entry)) ⌝ }
 {
     if is_code(v, b"NEWT") {
-        return ActionRead::Value(Action::Newt);
+        return Checked::Value(Action::Newt);
     }
     if is_code(v, b"MODI") {
-        return ActionRead::Value(Action::Modi);
+        return Checked::Value(Action::Modi);
     }
     if is_code(v, b"CORR") {
-        return ActionRead::Value(Action::Corr);
+        return Checked::Value(Action::Corr);
     }
     if is_code(v, b"TERM") {
-        return ActionRead::Value(Action::Term);
+        return Checked::Value(Action::Term);
     }
     if is_code(v, b"EROR") {
-        return ActionRead::Value(Action::Eror);
+        return Checked::Value(Action::Eror);
     }
     if is_code(v, b"REVI") {
-        return ActionRead::Value(Action::Revi);
+        return Checked::Value(Action::Revi);
     }
     if is_code(v, b"PRTO") {
-        return ActionRead::Value(Action::Prto);
+        return Checked::Value(Action::Prto);
     }
-    ActionRead::Fault(ACTION_CODE)
+    Checked::Fault(ACTION_CODE)
 }
 
 // The action's row in the tables.
@@ -80,6 +81,21 @@ fn row_of(a: Action) -> usize
         Action::Eror => 4,
         Action::Revi => 5,
         Action::Prto => 6,
+    }
+}
+
+// Whether a message of the action is full.
+pub fn is_full(a: Action) -> bool
+    ensures { λ r. ⌜ r ≡ isFull a ⌝ }
+{
+    match a {
+        Action::Newt => true,
+        Action::Modi => true,
+        Action::Corr => true,
+        Action::Term => false,
+        Action::Eror => false,
+        Action::Revi => true,
+        Action::Prto => false,
     }
 }
 

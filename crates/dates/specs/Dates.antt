@@ -1,8 +1,8 @@
 -- Document 01, 'Elements': dates, YYYY-MM-DD, and times, YYYY-MM-DDThh:mm:ssZ.
 use Prim.Native.Nat.{ℕ, _+_, _-_, _*_, _%_}
 use Prim.Native.Char.{code}
-use mathlib.Core.Bool.{Bool, not}
-use mathlib.Core.List.{List}
+use mathlib.Core.Bool.{Bool, true, false, not}
+use mathlib.Core.List.{List, [], _∷_}
 use lib.ListN.{length, getD}
 use lib.Dec.{ltb, leb, eqb}
 use Rattle.octets.specs.Choice.{choose, both, either}
@@ -55,3 +55,9 @@ unfoldable pub isTime : List ℕ → Bool
 isTime v =
     both (fitsPattern (text "0000-00-00T00:00:00Z") v)
     (both (namesDate v) (both (ltb (twoDigits v 11) 24) (both (ltb (twoDigits v 14) 60) (ltb (twoDigits v 17) 60))))
+
+-- a date before a date, a time before a time (verdict 13): places are fixed and the most significant comes first, so bytes are in the order of time
+unfoldable pub before : List ℕ → List ℕ → Bool
+before a [] = false
+before [] (y ∷ b) = true
+before (x ∷ a) (y ∷ b) = either (ltb x y) (both (eqb x y) (before a b))

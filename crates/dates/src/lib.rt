@@ -1,7 +1,7 @@
-// Dates and times: document 01, 'Elements', the forms of codes 4 to 9.
+// Dates and times: document 01, 'Elements', the forms of codes 4 to 9, and their order.
 ghost use mathlib.Core.Path.{_≡_};
 ghost use Prim.Native.Nat.{_<_};
-ghost use Rattle.dates.specs.Dates.{fitsByte, fitsPattern, digitAt, twoDigits, leap, daysIn, gregorian, namesDate, isDate, isTime};
+ghost use Rattle.dates.specs.Dates.{fitsByte, fitsPattern, digitAt, twoDigits, leap, daysIn, gregorian, namesDate, isDate, isTime, before};
 use octets::byte_at;
 use values::Class;
 use values::in_class;
@@ -130,4 +130,21 @@ pub fn is_time(v: &[u8]) -> bool
         return false;
     }
     two_at(v, 17) < 60
+}
+
+// Whether a date is before a date, or a time before a time.
+pub fn is_before(a: &[u8], b: &[u8]) -> bool
+    ensures { λ r. ⌜ r ≡ before (now (a .entry)) (now (b .entry)) ⌝ }
+{
+    let mut i: usize = 0;
+    while i < b.len() {
+        if a.len() <= i {
+            return true;
+        }
+        if a[i] != b[i] {
+            return a[i] < b[i];
+        }
+        i += 1;
+    }
+    false
 }

@@ -74,3 +74,13 @@ first-le f k (suc d) (suc i) h e =
     go : (t : Bool) → firstFrom f (suc k) d ≤ suc k + i → choose t k (firstFrom f (suc k) d) ≤ k + suc i
     go true l = omega arith
     go false l = omega arith
+
+-- the first one is not before the range
+pub first-from : (f : ℕ → Bool) (k d : ℕ) → k ≤ firstFrom f k d
+unfolding firstFrom
+first-from f k zero = omega arith
+first-from f k (suc d) = go (f k) (first-from f (suc k) d)
+  where
+    go : (t : Bool) → suc k ≤ firstFrom f (suc k) d → k ≤ choose t k (firstFrom f (suc k) d)
+    go true l = omega arith
+    go false l = omega arith

@@ -41,7 +41,7 @@ fn has_form(place: usize, v: &[u8]) -> bool {
 
 fn is_action(v: &[u8]) -> bool {
     let read = actions::read_action(v);
-    if let actions::ActionRead::Value(_) = read {
+    if let actions::Checked::Value(_) = read {
         return true;
     }
     false

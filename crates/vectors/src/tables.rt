@@ -35,7 +35,7 @@ pub fn place(word: &[u8]) -> usize {
 
 pub fn answer(place: usize, rest: &[u8]) {
     let read = actions::read_action(part_of(rest, 0, ACTION));
-    let actions::ActionRead::Value(a) = read else {
+    let actions::Checked::Value(a) = read else {
         hex::say(b"?");
         return;
     };

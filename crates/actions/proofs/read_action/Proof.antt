@@ -10,12 +10,12 @@ use Rattle.octets.specs.Text.{text}
 use Rattle.octets.specs.Same.{beside}
 use Rattle.octets.proofs.SameLaws.{beside-is, beside-not}
 use Rattle.actions.specs.Actions.{actionCode, actionCodes, actionOf}
-use Rattle.actions.specs.declared.ActionRead.{ActionRead}
-use Rattle.actions.specs.declared.ActionRead.the-variants.{Fault}
+use Rattle.actions.specs.declared.Checked.{Checked}
+use Rattle.actions.specs.declared.Checked.the-variants.{Fault}
 use Rattle.actions.proofs.read_action.Statement.{statement}
 use Rattle.actions.proofs.read_action.Tie as tie
 
-rest : ℕ → List ℕ → ActionRead
+rest : ℕ → List ℕ → Checked
 rest k v = beside (drop k actionCodes) (Fault actionCode) v
 
 -- the value, at each place

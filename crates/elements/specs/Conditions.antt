@@ -1,0 +1,55 @@
+-- Document 01, 'Elements': elements that are needed under an "if" (verdict 11), and what is left out.
+use Prim.Native.Nat.{ℕ}
+use mathlib.Core.Bool.{Bool, true, false}
+use mathlib.Core.List.{List, []}
+use lib.ListN.{length}
+use lib.Dec.{eqb}
+use Rattle.octets.specs.Choice.{choose, both}
+use Rattle.octets.specs.Text.{text}
+use Rattle.octets.specs.Same.{sameBytes}
+use Rattle.values.specs.Run.{within}
+use Rattle.values.specs.Code.{isTrue}
+use Rattle.message.specs.Values.{value}
+use Rattle.elements.specs.Codes.{cleared, nonStandardizedTerm, packageIndicator, packageIdentifier, priceNotation, priceCurrency}
+use Rattle.elements.specs.declared.conditions.Condition.{Condition}
+use Rattle.elements.specs.declared.conditions.Condition.the-variants.{Unconditional, ClearedIsN, Package, PackageInCurrency}
+
+-- no value is empty, so an element without bytes is missing
+unfoldable pub isMissing : ℕ → List ℕ → Bool
+isMissing code m = eqb (length (value code m)) 0
+
+-- 15 is true
+unfoldable pub isPackage : List ℕ → Bool
+isPackage m = isTrue (value packageIndicator m)
+
+-- 18 is a code
+unfoldable pub notationIs : List ℕ → List ℕ → Bool
+notationIs code m = sameBytes (value priceNotation m) code
+
+-- the "if" of an element in the column 'Needed'
+unfoldable pub conditionOf : ℕ → Condition
+conditionOf code =
+    choose (eqb code nonStandardizedTerm) ClearedIsN
+    (choose (within packageIdentifier priceNotation code) Package
+    (choose (eqb code priceCurrency) PackageInCurrency Unconditional))
+
+-- what the "if" says of a message; an element without one has nothing to be met
+abbrev pub met : Condition → List ℕ → Bool
+met Unconditional m = true
+met ClearedIsN m = sameBytes (value cleared m) (text "N")
+met Package m = isPackage m
+met PackageInCurrency m = both (isPackage m) (notationIs (text "1") m)
+
+abbrev pub isConditional : Condition → Bool
+isConditional Unconditional = false
+isConditional ClearedIsN = true
+isConditional Package = true
+isConditional PackageInCurrency = true
+
+-- the element has an "if", and it is met
+unfoldable pub isDue : ℕ → List ℕ → Bool
+isDue code m = both (isConditional (conditionOf code)) (met (conditionOf code) m)
+
+-- an element whose "if" is not met is left out
+unfoldable pub kept : ℕ → List ℕ → List ℕ
+kept code m = choose (met (conditionOf code) m) (value code m) []

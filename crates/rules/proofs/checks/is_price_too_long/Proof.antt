@@ -1,0 +1,40 @@
+-- `rules::checks::is_price_too_long` meets its contract. Assumes nothing.
+use mathlib.Core.Path.{sym, ap, _∙_}
+use borrow.Author.Tests.{not-true, not-false}
+use Rattle.octets.specs.Text.{text}
+use Rattle.numbers.specs.Numbers.{unsignedOf}
+use Rattle.rules.specs.Rules.{longPrice, priceTooLong}
+use borrow.Author.Needs.{needs}
+use Rattle.rules.proofs.checks.is_price_too_long.Statement.{statement}
+use Rattle.rules.proofs.checks.is_price_too_long.Tie as tie
+
+returns : tie.Need-returns
+unfolding priceTooLong
+returns c = rw (sym (c .before .is-package .ensures) ∙ not-true _ (c .if1 .taken))
+
+returns-2 : tie.Need-returns-2
+unfolding priceTooLong text
+returns-2 c = rw (sym (c .before .before .before .before .is-package .ensures) ∙ not-false _ (c .before .before .before .if1 .left), sym (c .before .notation-is .ensures) ∙ not-true _ (c .if2 .taken))
+
+returns-3 : tie.Need-returns-3
+unfolding priceTooLong text
+returns-3 c =
+    rw (
+      sym (c .before .before .before .before .before .before .before .is-package .ensures) ∙ not-false _ (c .before .before .before .before .before .before .if1 .left),
+      sym (c .before .before .before .before .notation-is .ensures) ∙ not-false _ (c .before .before .before .if2 .left),
+    )
+    (c .is-long-price .ensures ∙ ap longPrice (c .before .unsigned-of .ensures ∙ ap unsignedOf (c .before .before .element .ensures .0)))
+
+pub is-price-too-long-spec : {M : Type 1} → statement M
+is-price-too-long-spec =
+    tie.close
+    (tie.spec
+    (λ c κs. search needs)
+    returns
+    (λ c. search needs)
+    (λ c κs. search needs)
+    returns-2
+    (λ c κs. search needs)
+    (λ c κs. search needs)
+    (λ c κs. search needs)
+    returns-3)

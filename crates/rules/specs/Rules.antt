@@ -1,0 +1,114 @@
+-- Document 01, 'Verdict numbers': rules 5 to 13, which judge a message alone.
+use Prim.Native.Nat.{ℕ, _+_}
+use mathlib.Core.Bool.{Bool, not}
+use mathlib.Core.List.{List, [], _∷_}
+use lib.ListN.{length}
+use lib.Dec.{ltb, eqb}
+use Rattle.octets.specs.Choice.{choose, both, either}
+use Rattle.octets.specs.Text.{text}
+use Rattle.numbers.specs.Numbers.{wholeOf, decimalsOf, unsignedOf}
+use Rattle.dates.specs.Dates.{before}
+use Rattle.message.specs.Values.{value}
+use Rattle.actions.specs.declared.Action.{Action}
+use Rattle.actions.specs.declared.Checked.{Checked}
+use Rattle.actions.specs.declared.Checked.the-variants as checked
+use Rattle.actions.specs.Actions.{actionCode, actionOf, isFull}
+use Rattle.actions.specs.Elements.{hasLayout, takes, needs}
+use Rattle.actions.specs.Matrix.{pairAllowed}
+use Rattle.elements.specs.Codes.{eventType, reportingTime, executionTime, effectiveDate, expirationDate, settlementDate, packagePrice}
+use Rattle.elements.specs.Forms.{hasForm}
+use Rattle.elements.specs.Conditions.{isMissing, isPackage, notationIs, isDue}
+use Rattle.rules.specs.Verdicts.{layoutWrong, noAction, neededMissing, notTaken, formBroken, notPair, dueMissing, priceLong, orderWrong}
+use Rattle.rules.specs.Findings.{Finding, passed, broken, brokenIf, lowest, firstBroken}
+use Rattle.rules.specs.declared.Judged.{Judged}
+use Rattle.rules.specs.declared.Judged.the-variants as answer
+use Rattle.rules.specs.declared.checks.Check.{Check}
+use Rattle.rules.specs.declared.checks.Check.the-variants.{Needed, Taken, Formed, Due}
+
+-- what a check answers is what a rule finds: the element at fault, or that the rule is passed
+abbrev pub finding : Checked → Finding
+finding (checked.Fault code) = broken code
+finding (checked.Value a) = passed
+
+abbrev pub answerOf : Action → Finding → Checked
+answerOf a passed = checked.Value a
+answerOf a (broken code) = checked.Fault code
+
+-- an element is at fault by a rule that names the lowest one
+abbrev pub atFault : Check → Action → List ℕ → ℕ → Bool
+atFault Needed a m code = both (needs a code) (isMissing code m)
+atFault Taken a m code = both (not (isMissing code m)) (not (takes a code))
+atFault Formed a m code = both (not (isMissing code m)) (not (hasForm code (value code m)))
+atFault Due a m code = both (isDue code m) (isMissing code m)
+
+-- a price with notation 3 has at most 11 digits, 10 after the point (12)
+abbrev pub noteDigits : ℕ
+noteDigits = 11
+
+abbrev pub noteDecimals : ℕ
+noteDecimals = 10
+
+unfoldable pub longPrice : List ℕ → Bool
+longPrice v = either (ltb noteDigits (length (wholeOf v) + length (decimalsOf v))) (ltb noteDecimals (length (decimalsOf v)))
+
+unfoldable pub priceTooLong : List ℕ → Bool
+priceTooLong m = both (isPackage m) (both (notationIs (text "3") m) (longPrice (unsignedOf (value packagePrice m))))
+
+-- dates and times of a full message are out of order (13)
+abbrev pub elementBefore : List ℕ → ℕ → ℕ → Bool
+elementBefore m a b = before (value a m) (value b m)
+
+unfoldable pub outOfOrder : Action → List ℕ → Bool
+outOfOrder a m =
+    both (isFull a)
+    (either (elementBefore m expirationDate effectiveDate)
+    (either (elementBefore m settlementDate expirationDate) (elementBefore m reportingTime executionTime)))
+
+-- rules 7 to 13, for the message's action
+unfoldable pub rulesOf : Action → List ℕ → List (ℕ × Finding)
+rulesOf a m =
+    (neededMissing, lowest (atFault Needed a m))
+    ∷ (notTaken, lowest (atFault Taken a m))
+    ∷ (formBroken, lowest (atFault Formed a m))
+    ∷ (notPair, brokenIf (not (pairAllowed a (value eventType m))))
+    ∷ (dueMissing, lowest (atFault Due a m))
+    ∷ (priceLong, brokenIf (priceTooLong m))
+    ∷ (orderWrong, brokenIf (outOfOrder a m))
+    ∷ []
+
+-- where 6 is broken there is no action, and nothing is judged after it
+abbrev pub afterAction : Checked → List ℕ → List (ℕ × Finding)
+afterAction (checked.Fault code) m = []
+afterAction (checked.Value a) m = rulesOf a m
+
+-- the rules in checking order, by what the action's element says
+unfoldable pub rulesFor : Checked → ℕ → List ℕ → List (ℕ × Finding)
+rulesFor action longest m =
+    (layoutWrong, brokenIf (not (hasLayout longest m)))
+    ∷ (noAction, finding action)
+    ∷ afterAction action m
+
+abbrev pub rules : ℕ → List ℕ → List (ℕ × Finding)
+rules longest m = rulesFor (actionOf (value actionCode m)) longest m
+
+-- verdict and element of a message alone; 0 and 0 where no rule from 5 to 13 is broken
+unfoldable pub verdict : ℕ → List ℕ → ℕ × ℕ
+verdict longest m = firstBroken (rules longest m)
+
+-- what judging answers: a refusal with verdict and element, or the action of a message that no rule refuses
+abbrev pub conclude : ℕ × ℕ → Checked → Judged
+conclude v (checked.Fault code) = answer.Refused (v .0) (v .1)
+conclude v (checked.Value a) = choose (eqb (v .0) 0) (answer.Value a) (answer.Refused (v .0) (v .1))
+
+unfoldable pub judged : ℕ → List ℕ → Judged
+judged longest m = conclude (verdict longest m) (actionOf (value actionCode m))
+
+-- a refusal by a check that names an element
+abbrev pub refusedBy : ℕ → Checked → Judged
+refusedBy n (checked.Fault code) = answer.Refused n code
+refusedBy n (checked.Value a) = answer.Refused n 0
+
+-- document 01's number and element of an answer
+abbrev pub verdictOf : Judged → ℕ × ℕ
+verdictOf (answer.Refused v e) = (v, e)
+verdictOf (answer.Value a) = (0, 0)

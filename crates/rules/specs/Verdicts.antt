@@ -1,0 +1,38 @@
+-- Document 01, 'Verdict numbers': those of a message alone, in checking order.
+use Prim.Native.Nat.{ℕ}
+
+-- The message's layout is wrong.
+abbrev pub layoutWrong : ℕ
+layoutWrong = 5
+
+-- The action is missing or not one of the seven.
+abbrev pub noAction : ℕ
+noAction = 6
+
+-- An element needed by all, or by a full action, is missing.
+abbrev pub neededMissing : ℕ
+neededMissing = 7
+
+-- TERM, EROR or PRTO has an element above 5.
+abbrev pub notTaken : ℕ
+notTaken = 8
+
+-- A value breaks its form.
+abbrev pub formBroken : ℕ
+formBroken = 9
+
+-- Action and event, or its absence, are not a pair of the matrix.
+abbrev pub notPair : ℕ
+notPair = 10
+
+-- A conditional element is missing.
+abbrev pub dueMissing : ℕ
+dueMissing = 11
+
+-- The price of a package with notation 3 has more than 11 digits, or more than 10 after the point.
+abbrev pub priceLong : ℕ
+priceLong = 12
+
+-- In a full message expiration is before effective, settlement before expiration, or reporting before execution.
+abbrev pub orderWrong : ℕ
+orderWrong = 13

@@ -1,0 +1,121 @@
+// The rules one by one.
+ghost use mathlib.Core.Path.{_≡_};
+ghost use Rattle.rules.specs.Findings.{lowest};
+ghost use Rattle.rules.specs.Rules.{answerOf, atFault, longPrice, priceTooLong, elementBefore, outOfOrder};
+use actions::Action;
+use actions::Checked;
+use actions::LAST_CODE;
+use elements::EFFECTIVE_DATE;
+use elements::EXECUTION_TIME;
+use elements::EXPIRATION_DATE;
+use elements::PACKAGE_PRICE;
+use elements::REPORTING_TIME;
+use elements::SETTLEMENT_DATE;
+use message::element;
+
+// The checks that name the lowest element code at fault: 7, 8, 9 and 11.
+pub enum Check {
+    Needed,
+    Taken,
+    Formed,
+    Due,
+}
+
+// The most digits of a price with notation 3, in all and after the point.
+const NOTE_DIGITS: usize = 11;
+
+const NOTE_DECIMALS: usize = 10;
+
+// Whether an element is at fault.
+fn is_at_fault(m: &[u8], action: Action, check: Check, code: u16) -> bool
+    ensures { λ r. ⌜ r ≡ atFault check action (now (m .entry)) code ⌝ }
+{
+    match check {
+        Check::Needed => {
+            if actions::is_needed(action, code as usize) {
+                return elements::is_missing(m, code);
+            }
+            false
+        }
+        Check::Taken => {
+            if elements::is_missing(m, code) {
+                return false;
+            }
+            !actions::is_taken(action, code as usize)
+        }
+        Check::Formed => {
+            if elements::is_missing(m, code) {
+                return false;
+            }
+            !elements::has_form(code, element(m, code))
+        }
+        Check::Due => {
+            if elements::is_due(m, code) {
+                return elements::is_missing(m, code);
+            }
+            false
+        }
+    }
+}
+
+// The lowest element code at fault, or the action.
+pub fn lowest_fault(m: &[u8], action: Action, check: Check) -> Checked
+    ensures { λ r. ⌜ r ≡ answerOf action (lowest (atFault check action (now (m .entry)))) ⌝ }
+{
+    let mut code: u16 = 1;
+    while code as usize <= LAST_CODE {
+        if is_at_fault(m, action, check, code) {
+            return Checked::Fault(code as u8);
+        }
+        code += 1;
+    }
+    Checked::Value(action)
+}
+
+// Whether an unsigned number has more digits than a price with notation 3 may have.
+fn is_long_price(v: &[u8]) -> bool
+    ensures { λ r. ⌜ r ≡ longPrice (now (v .entry)) ⌝ }
+{
+    let whole = numbers::whole_of(v);
+    let decimals = numbers::decimals_of(v);
+    if NOTE_DIGITS < whole.len() + decimals.len() {
+        return true;
+    }
+    NOTE_DECIMALS < decimals.len()
+}
+
+// Whether the price of a package with notation 3 is too long.
+pub fn is_price_too_long(m: &[u8]) -> bool
+    ensures { λ r. ⌜ r ≡ priceTooLong (now (m .entry)) ⌝ }
+{
+    if !elements::is_package(m) {
+        return false;
+    }
+    if !elements::notation_is(m, b"3") {
+        return false;
+    }
+    is_long_price(numbers::unsigned_of(element(m, PACKAGE_PRICE)))
+}
+
+// Whether the value of one element is before that of another.
+fn is_element_before(m: &[u8], a: u16, b: u16) -> bool
+    ensures { λ r. ⌜ r ≡ elementBefore (now (m .entry)) a b ⌝ }
+{
+    dates::is_before(element(m, a), element(m, b))
+}
+
+// Whether dates or times of a full message are out of order.
+pub fn is_out_of_order(m: &[u8], action: Action) -> bool
+    ensures { λ r. ⌜ r ≡ outOfOrder action (now (m .entry)) ⌝ }
+{
+    if !actions::is_full(action) {
+        return false;
+    }
+    if is_element_before(m, EXPIRATION_DATE, EFFECTIVE_DATE) {
+        return true;
+    }
+    if is_element_before(m, SETTLEMENT_DATE, EXPIRATION_DATE) {
+        return true;
+    }
+    is_element_before(m, REPORTING_TIME, EXECUTION_TIME)
+}
