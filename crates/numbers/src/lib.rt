@@ -12,7 +12,7 @@ const PRICE_DECIMALS: usize = 13;
 
 const NOTIONAL_DIGITS: usize = 25;
 
-const NOTIONAL_DECIMALS: usize = 5;
+pub const NOTIONAL_DECIMALS: usize = 5;
 
 // The place of the first point, or the length where there is none.
 fn point_in(v: &[u8]) -> usize

@@ -1,0 +1,4 @@
+pub mod AmountLaws
+pub mod BandLaws
+pub mod RoundingLaws
+pub mod MaskingLaws

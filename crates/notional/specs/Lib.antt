@@ -1,0 +1,4 @@
+pub mod Amount
+pub mod Rounding
+pub mod Masking
+pub mod Examples
