@@ -45,8 +45,11 @@ isNumber a b v =
     (choose (hasPoint v) (both (runOf 1 b Digit (decimalsOf v)) (leb (length (wholeOf v) + length (decimalsOf v)) a)) true)
 
 -- code 17 may open with a minus
+abbrev pub hasMinus : List ℕ → Bool
+hasMinus v = eqb (getD v 0 0) (code "-")
+
 unfoldable pub unsignedOf : List ℕ → List ℕ
-unsignedOf v = choose (eqb (getD v 0 0) (code "-")) (drop 1 v) v
+unsignedOf v = choose (hasMinus v) (drop 1 v) v
 
 -- code 17: at most 18 digits, 13 after the point
 unfoldable pub isPrice : List ℕ → Bool

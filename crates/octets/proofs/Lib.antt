@@ -4,3 +4,4 @@ pub mod PartLaws
 pub mod SameLaws
 pub mod NumberLaws
 pub mod WriteLaws
+pub mod FieldLaws

@@ -1,8 +1,8 @@
 -- Laws of specs/Part.antt: what a part and a splice have, and what a lent part is. Assumes nothing.
 use mathlib.Core.Path.{_≡_, refl, sym, ap, _∙_}
-use mathlib.Core.List.{List, _++_, append-assoc, append-nil}
+use mathlib.Core.List.{List, [], _++_, append-assoc, append-nil}
 use Prim.Native.Nat.{ℕ, _+_, _-_, _≤_}
-use native.Mathlib.Nat.{zero-add, add-assoc, add-sub-cancel-left}
+use native.Mathlib.Nat.{zero-add, add-zero, add-assoc, add-sub-cancel-left}
 use native.Mathlib.Omega.{arith}
 use lib.ListN.{length, take, drop, length-append, length-take, length-drop, drop-of-length-le, take-append-drop}
 use lib.Seq.{length-take-le, drop-drop, take-at, drop-at, take-append-le, drop-append-le}
@@ -80,6 +80,11 @@ splice-splice d ys zs at h =
     let two : drop (at + length ys + length zs) (take at d ++ (ys ++ drop (at + length ys) d)) ≡ drop (at + length (ys ++ zs)) d =
     rw (a, ← drop-drop (length zs) (at + length ys), drop-at (take at d ++ ys) (drop (at + length ys) d) (at + length ys) n, drop-drop, length-append, add-assoc) in
     rw (one, two) (simp append-assoc)
+
+-- a splice of nothing
+pub splice-none : (d : List ℕ) (at : ℕ) → splice d at [] ≡ d
+unfolding splice
+splice-none d at = rw add-zero (take-append-drop at d)
 
 -- a splice of the whole
 pub splice-all : (d ys : List ℕ) → length ys ≡ length d → splice d 0 ys ≡ ys

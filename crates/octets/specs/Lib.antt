@@ -4,3 +4,4 @@ pub mod Part
 pub mod Text
 pub mod Same
 pub mod Number
+pub mod Field

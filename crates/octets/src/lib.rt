@@ -1,12 +1,13 @@
-// Bytes: parts of a slice, numbers in bytes, copying, filling and comparing, decimal digits.
+// Bytes: parts of a slice, numbers in bytes, copying, filling and comparing, decimal digits, fields of text.
 // A function on a whole slice has the loop; the one with `_at` lends it the part that is meant.
 ghost use mathlib.Core.Path.{_≡_};
-ghost use Prim.Native.Nat.{_+_, _*_, _^_, _<_, _≤_};
-ghost use lib.ListN.{length, getD, replicate};
+ghost use Prim.Native.Nat.{_+_, _-_, _*_, _^_, _<_, _≤_, min};
+ghost use lib.ListN.{length, getD, take, replicate};
 ghost use lib.Dec.{ltb};
 ghost use Rattle.octets.specs.Part.{part, splice, PartOf};
 ghost use Rattle.octets.specs.Same.{sameBytes, placeAmong};
 ghost use Rattle.octets.specs.Number.{fromLe, toLe, digits};
+ghost use Rattle.octets.specs.Field.{field};
 
 // The byte at i; past the end there are zeros.
 pub fn byte_at(s: &[u8], i: usize) -> u8
@@ -178,4 +179,34 @@ pub fn digits_at(dst: &mut [u8], at: usize, n: usize, v: u64)
 {
     let end = at + n;
     write_digits(&mut dst[at..end], v);
+}
+
+// Writes s into dst from `at` on, as far as it fits, and answers the place behind it: a text is built piece by piece.
+pub fn append(dst: &mut [u8], at: usize, s: &[u8]) -> usize
+    ensures { λ r. ⌜ (now (dst .exit) ≡ splice (now (dst .entry)) at (take (length (now (dst .entry)) - at) (now (s .entry)))) × (r ≡ min (length (now (dst .entry))) (at + length (now (s .entry)))) ⌝ }
+{
+    let n = dst.len();
+    if n < at {
+        return n;
+    }
+    let fits = part_of(s, 0, n - at);
+    copy_at(dst, at, fits);
+    at + fits.len()
+}
+
+// Writes src into dst, left aligned, and spaces behind it.
+pub fn write_field(dst: &mut [u8], src: &[u8])
+    ensures { λ _. ⌜ now (dst .exit) ≡ field (length (now (dst .entry))) (now (src .entry)) ⌝ }
+{
+    fill(dst, b' ');
+    append(dst, 0, src);
+}
+
+// Writes src into the field of n bytes from `at` on.
+pub fn field_at(dst: &mut [u8], at: usize, n: usize, src: &[u8])
+    requires { ⌜ at + n ≤ length (now dst) ⌝ }
+    ensures { λ _. ⌜ now (dst .exit) ≡ splice (now (dst .entry)) at (field n (now (src .entry))) ⌝ }
+{
+    let end = at + n;
+    write_field(&mut dst[at..end], src);
 }
