@@ -1,0 +1,3 @@
+pub mod FieldRun
+pub mod TermLaws
+pub mod PublicLaws

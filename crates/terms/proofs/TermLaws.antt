@@ -1,0 +1,69 @@
+-- Laws of specs/Terms.antt. Assumes nothing.
+use Prim.Native.Nat.{ℕ, _+_, _-_, _<_}
+use mathlib.Core.Bool.{Bool, true}
+use mathlib.Core.Path.{_≡_, refl, sym, ap, _∙_}
+use mathlib.Core.List.{List, [], _∷_, _++_}
+use lib.ListN.{length, getD}
+use native.Mathlib.Omega.{arith}
+use borrow.Author.Tests.{eq-eqb, ne-eqb}
+use Rattle.octets.specs.Choice.{choose}
+use Rattle.octets.specs.Text.{text}
+use Rattle.values.specs.Code.{isTrue}
+use Rattle.price.specs.Price.{shownPrice}
+use Rattle.octets.specs.Part.{part}
+use Rattle.octets.specs.Field.{field}
+use Rattle.octets.proofs.PartLaws.{splice-all}
+use Rattle.terms.specs.Terms.{termsStart, termsEnd, termsSize, written, shownTruth, priceText, dateFields, truthFields, priceFields, notionalFields, termFields, termsOf}
+use Rattle.terms.proofs.FieldRun.{inPlace, length-bytes, written-append, written-row, noField, field-placed}
+
+-- ---- what is shown of a value
+
+-- a value without bytes
+nothing : (v : List ℕ) → length v ≡ 0 → v ≡ []
+nothing [] e = refl
+nothing (b ∷ v) e = absurd (omega arith)
+
+pub truth-none : (v : List ℕ) → length v ≡ 0 → v ≡ shownTruth v
+unfolding shownTruth
+truth-none v e = rw (eq-eqb _ _ e) (nothing v e)
+
+pub truth-shown : (v : List ℕ) (t : Bool) → (length v ≡ 0 → ⊥) → isTrue v ≡ t → choose t (text "T") (text "F") ≡ shownTruth v
+unfolding shownTruth
+truth-shown v t some e = rw (ne-eqb _ _ some, e)
+
+pub price-none : (v : List ℕ) → length v ≡ 0 → v ≡ priceText v
+unfolding priceText
+price-none v e = rw (eq-eqb _ _ e) (nothing v e)
+
+pub price-some : (v : List ℕ) → (length v ≡ 0 → ⊥) → shownPrice v ≡ priceText v
+unfolding priceText
+price-some v some = rw (ne-eqb _ _ some)
+
+-- ---- the terms as a whole
+
+-- the fields follow each other from where the terms start to the newline
+pub in-place : (cap : ℕ) (m : List ℕ) → inPlace termsStart (termFields cap m) termsEnd ≡ true
+unfolding inPlace termFields dateFields truthFields priceFields notionalFields
+in-place cap m = refl
+
+-- the terms are 93 bytes
+pub length-terms : (cap : ℕ) (m : List ℕ) → length (termsOf cap m) ≡ termsSize
+unfolding termsOf
+length-terms cap m = omega (arith, length-bytes termsStart (termFields cap m) termsEnd (in-place cap m))
+
+-- each field stands at document 01's offset
+pub term-placed : (cap : ℕ) (m : List ℕ) (k : ℕ) → k < length (termFields cap m) → part (termsOf cap m) (getD (termFields cap m) k noField .0 - termsStart) (getD (termFields cap m) k noField .1) ≡ field (getD (termFields cap m) k noField .1) (getD (termFields cap m) k noField .2)
+unfolding termsOf
+term-placed cap m k h = field-placed termsStart (termFields cap m) termsEnd k (in-place cap m) h
+
+-- the four groups, written one after the other
+pub groups-written : (cap : ℕ) (m d : List ℕ) {d₁ d₂ d₃ last : List ℕ} → length d ≡ termsSize → d₁ ≡ written (dateFields m) d → d₂ ≡ written (truthFields m) d₁ → d₃ ≡ written (priceFields m) d₂ → last ≡ written (notionalFields cap m) d₃ → last ≡ termsOf cap m
+unfolding termsOf termFields
+groups-written cap m d {d₁} {d₂} {d₃} {last} size e₁ e₂ e₃ e₄ =
+    let run : last ≡ written (termFields cap m) d =
+    e₄
+    ∙ ap (written (notionalFields cap m)) (e₃ ∙ ap (written (priceFields m)) (e₂ ∙ ap (written (truthFields m)) e₁))
+    ∙ sym (written-append (priceFields m) (notionalFields cap m) _)
+    ∙ sym (written-append (truthFields m) (priceFields m ++ notionalFields cap m) _)
+    ∙ sym (written-append (dateFields m) (truthFields m ++ (priceFields m ++ notionalFields cap m)) d) in
+    run ∙ written-row termsStart (termFields cap m) termsEnd d (in-place cap m) (omega arith) (omega arith) ∙ splice-all d (termsOf cap m) (length-terms cap m ∙ sym size)

@@ -1,0 +1,25 @@
+-- `terms::write_truths` meets its contract. Assumes nothing.
+use Rattle.terms.specs.Terms.{truthFields}
+use Rattle.terms.proofs.FieldRun.{then-written, last-written}
+use borrow.Author.Needs.{needs}
+use Rattle.terms.proofs.write_truths.Statement.{statement}
+use Rattle.terms.proofs.write_truths.Tie as tie
+
+returns : tie.Need-returns
+unfolding truthFields
+returns c =
+    let third = c .before .before .before .before in
+    let second = third .before .before .before .before in
+    let first = second .before .before .before .before in
+    then-written _ _ _ (first .before .before .truth-at .ensures) (then-written _ _ _ (second .before .before .truth-at2 .ensures) (then-written _ _ _ (third .before .before .truth-at3 .ensures) (last-written _ _ (c .before .before .truth-at4 .ensures))))
+
+pub write-truths-spec : {M : Type 1} → statement M
+write-truths-spec =
+    tie.close
+    (tie.spec
+    (λ c κs. search needs)
+    (λ c κs. search needs)
+    (λ c κs. search needs)
+    (λ c κs. search needs)
+    (λ c. search needs)
+    returns)

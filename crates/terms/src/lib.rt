@@ -1,0 +1,182 @@
+// The masked terms of a full message: document 01, 'The tape line', from 52 up to the newline.
+ghost use mathlib.Core.Path.{_≡_};
+ghost use Prim.Native.Nat.{_+_, _-_, _≤_};
+ghost use lib.ListN.{length};
+ghost use Rattle.octets.specs.Part.{splice};
+ghost use Rattle.octets.specs.Field.{field};
+ghost use Rattle.elements.specs.Codes.{packagePrice};
+ghost use Rattle.elements.specs.Conditions.{kept};
+ghost use Rattle.notional.specs.Masking.{largestCap};
+ghost use Rattle.terms.specs.Terms.{termsSize, written, shownTruth, priceText, plusText, dateFields, truthFields, priceFields, notionalFields, termsOf};
+use elements::ASSET_CLASS;
+use elements::BLOCK_ELECTION;
+use elements::CLEARED;
+use elements::EFFECTIVE_DATE;
+use elements::EXECUTION_TIME;
+use elements::EXPIRATION_DATE;
+use elements::LARGE_NOTIONAL_ELECTION;
+use elements::NON_STANDARDIZED_TERM;
+use elements::NOTIONAL_AMOUNT;
+use elements::NOTIONAL_CURRENCY;
+use elements::PACKAGE_INDICATOR;
+use elements::PACKAGE_PRICE;
+use elements::PRICE_CURRENCY;
+use elements::PRICE_NOTATION;
+use elements::SETTLEMENT_LOCATION;
+use octets::field_at;
+
+// Lengths of the fields.
+const TIME: usize = 20;
+
+const DATE: usize = 10;
+
+const MARK: usize = 1;
+
+const PRICE: usize = 20;
+
+const CURRENCY: usize = 3;
+
+const CLASS: usize = 2;
+
+const NOTIONAL: usize = 16;
+
+const LOCATION: usize = 2;
+
+// Where each field starts in the terms.
+const EXECUTION_AT: usize = 0;
+
+const EFFECTIVE_AT: usize = EXECUTION_AT + TIME;
+
+const EXPIRATION_AT: usize = EFFECTIVE_AT + DATE;
+
+const CLEARED_AT: usize = EXPIRATION_AT + DATE;
+
+const NON_STANDARDIZED_AT: usize = CLEARED_AT + MARK;
+
+const BLOCK_AT: usize = NON_STANDARDIZED_AT + MARK;
+
+const LARGE_AT: usize = BLOCK_AT + MARK;
+
+const PACKAGE_AT: usize = LARGE_AT + MARK;
+
+const PRICE_AT: usize = PACKAGE_AT + MARK;
+
+const NOTATION_AT: usize = PRICE_AT + PRICE;
+
+const PRICE_CURRENCY_AT: usize = NOTATION_AT + MARK;
+
+const CLASS_AT: usize = PRICE_CURRENCY_AT + CURRENCY;
+
+const NOTIONAL_AT: usize = CLASS_AT + CLASS;
+
+const PLUS_AT: usize = NOTIONAL_AT + NOTIONAL;
+
+const NOTIONAL_CURRENCY_AT: usize = PLUS_AT + MARK;
+
+const LOCATION_AT: usize = NOTIONAL_CURRENCY_AT + CURRENCY;
+
+// Writes the value of an element; spaces where it is missing or left out.
+fn text_at(dst: &mut [u8], at: usize, n: usize, m: &[u8], code: u16)
+    requires { ⌜ at + n ≤ length (now dst) ⌝ }
+    ensures { λ _. ⌜ now (dst .exit) ≡ splice (now (dst .entry)) at (field n (kept code (now (m .entry)))) ⌝ }
+{
+    field_at(dst, at, n, elements::kept(m, code));
+}
+
+// Writes T or F for a truth; a space where it is missing or left out.
+fn truth_at(dst: &mut [u8], at: usize, m: &[u8], code: u16)
+    requires { ⌜ at + 1 ≤ length (now dst) ⌝ }
+    ensures { λ _. ⌜ now (dst .exit) ≡ splice (now (dst .entry)) at (field 1 (shownTruth (kept code (now (m .entry))))) ⌝ }
+{
+    let v = elements::kept(m, code);
+    if v.len() == 0 {
+        field_at(dst, at, MARK, v);
+        return;
+    }
+    if values::is_true(v) {
+        field_at(dst, at, MARK, b"T");
+        return;
+    }
+    field_at(dst, at, MARK, b"F");
+}
+
+// Writes the package price; spaces where it is missing or left out.
+fn package_price_at(dst: &mut [u8], at: usize, n: usize, m: &[u8])
+    requires { ⌜ at + n ≤ length (now dst) ⌝ }
+    ensures { λ _. ⌜ now (dst .exit) ≡ splice (now (dst .entry)) at (field n (priceText (kept packagePrice (now (m .entry))))) ⌝ }
+{
+    let v = elements::kept(m, PACKAGE_PRICE);
+    if v.len() == 0 {
+        field_at(dst, at, n, v);
+        return;
+    }
+    price::price_at(dst, at, n, v);
+}
+
+// Writes a plus sign or a blank.
+fn plus_at(dst: &mut [u8], at: usize, plus: bool)
+    requires { ⌜ at + 1 ≤ length (now dst) ⌝ }
+    ensures { λ _. ⌜ now (dst .exit) ≡ splice (now (dst .entry)) at (field 1 (plusText plus)) ⌝ }
+{
+    if plus {
+        field_at(dst, at, MARK, b"+");
+        return;
+    }
+    octets::fill_at(dst, at, MARK, b' ');
+}
+
+// Execution time, effective and expiration date, Cleared.
+fn write_dates(dst: &mut [u8], m: &[u8])
+    requires { ⌜ length (now dst) ≡ termsSize ⌝ }
+    ensures { λ _. ⌜ now (dst .exit) ≡ written (dateFields (now (m .entry))) (now (dst .entry)) ⌝ }
+{
+    text_at(dst, EXECUTION_AT, TIME, m, EXECUTION_TIME);
+    text_at(dst, EFFECTIVE_AT, DATE, m, EFFECTIVE_DATE);
+    text_at(dst, EXPIRATION_AT, DATE, m, EXPIRATION_DATE);
+    text_at(dst, CLEARED_AT, MARK, m, CLEARED);
+}
+
+// Non-standardized term, block and large notional election, package.
+fn write_truths(dst: &mut [u8], m: &[u8])
+    requires { ⌜ length (now dst) ≡ termsSize ⌝ }
+    ensures { λ _. ⌜ now (dst .exit) ≡ written (truthFields (now (m .entry))) (now (dst .entry)) ⌝ }
+{
+    truth_at(dst, NON_STANDARDIZED_AT, m, NON_STANDARDIZED_TERM);
+    truth_at(dst, BLOCK_AT, m, BLOCK_ELECTION);
+    truth_at(dst, LARGE_AT, m, LARGE_NOTIONAL_ELECTION);
+    truth_at(dst, PACKAGE_AT, m, PACKAGE_INDICATOR);
+}
+
+// Price, notation and price currency.
+fn write_package(dst: &mut [u8], m: &[u8])
+    requires { ⌜ length (now dst) ≡ termsSize ⌝ }
+    ensures { λ _. ⌜ now (dst .exit) ≡ written (priceFields (now (m .entry))) (now (dst .entry)) ⌝ }
+{
+    package_price_at(dst, PRICE_AT, PRICE, m);
+    text_at(dst, NOTATION_AT, MARK, m, PRICE_NOTATION);
+    text_at(dst, PRICE_CURRENCY_AT, CURRENCY, m, PRICE_CURRENCY);
+}
+
+// Asset class, notional with its plus sign, notional currency, location.
+fn write_notional(dst: &mut [u8], m: &[u8], cap: u64)
+    requires { ⌜ (length (now dst) ≡ termsSize) × (cap ≤ largestCap) ⌝ }
+    ensures { λ _. ⌜ now (dst .exit) ≡ written (notionalFields cap (now (m .entry))) (now (dst .entry)) ⌝ }
+{
+    let masked = notional::mask(elements::kept(m, NOTIONAL_AMOUNT), cap);
+    text_at(dst, CLASS_AT, CLASS, m, ASSET_CLASS);
+    octets::digits_at(dst, NOTIONAL_AT, NOTIONAL, masked.units);
+    plus_at(dst, PLUS_AT, masked.plus);
+    text_at(dst, NOTIONAL_CURRENCY_AT, CURRENCY, m, NOTIONAL_CURRENCY);
+    text_at(dst, LOCATION_AT, LOCATION, m, SETTLEMENT_LOCATION);
+}
+
+// Writes the masked terms of a full message under the cap that applies.
+pub fn write_terms(dst: &mut [u8], m: &[u8], cap: u64)
+    requires { ⌜ (length (now dst) ≡ termsSize) × (cap ≤ largestCap) ⌝ }
+    ensures { λ _. ⌜ now (dst .exit) ≡ termsOf cap (now (m .entry)) ⌝ }
+{
+    write_dates(dst, m);
+    write_truths(dst, m);
+    write_package(dst, m);
+    write_notional(dst, m, cap);
+}
