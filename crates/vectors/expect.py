@@ -263,6 +263,17 @@ def is_lei(value):
     return lei_number(value) % LEI_DIVISOR == LEI_REMAINDER
 
 
+# Elements, the table's columns "Code" and "Form"
+FORM_OF_CODE = {
+    1: is_uti, 2: is_action, 3: is_event, 4: is_time, 5: is_time, 6: is_time,
+    7: is_date, 8: is_date, 9: is_date, 10: is_cleared, 11: is_truth,
+    12: is_truth, 13: is_truth, 14: is_allocation, 15: is_truth,
+    16: is_package, 17: is_price, 18: is_notation, 19: is_currency,
+    20: is_notional, 21: is_currency, 22: is_location, 23: is_lei, 24: is_lei,
+    25: is_class,
+}
+
+
 # ------------------------------------------------- Elements: actions and codes
 
 HIGHEST_CODE_OF_OTHERS = 5
@@ -281,6 +292,22 @@ def needs(action, code):
     if code in NEEDED_BY_ALL:
         return True
     return action in FULL_ACTIONS and code in NEEDED_BY_FULL
+
+
+CONDITIONAL = [11, 16, 17, 18, 19]
+
+
+# Elements, column "Needed": "if Cleared is N", "if 15 is true", "if 15 is true
+# and 18 is 1"; codes without an "if" have nothing to meet
+def if_is_met(message, code):
+    package = element(message, 15) in [b"True", b"true"]
+    if code == 11:
+        return element(message, 10) == b"N"
+    if code in [16, 17, 18]:
+        return package
+    if code == 19:
+        return package and element(message, 18) == b"1"
+    return True
 
 
 # --------------------------------------------------- Elements: the event matrix
@@ -336,6 +363,193 @@ def writes_line(action):
     return action != b"PRTO"
 
 
+# --------------------------------------------------------- The masked notional
+
+# Amounts are counted in units of the last place that code 20 can have.
+ONE = 10 ** NOTIONAL_AFTER_POINT
+
+# The masked notional: "below 1,000 nearest 5", and so on
+BANDS = [
+    (1_000, 5),
+    (10_000, 100),
+    (100_000, 1_000),
+    (1_000_000, 10_000),
+    (100_000_000, 1_000_000),
+    (500_000_000, 10_000_000),
+    (1_000_000_000, 50_000_000),
+    (100_000_000_000, 1_000_000_000),
+]
+STEP_FROM_THERE = 50_000_000_000
+LEAST_SHOWN = 5
+LOWEST_CAP = 1_000
+HIGHEST_CAP = 1_000_000_000_000_000
+
+
+def exact_amount(value):
+    whole, _, fraction = value.partition(b".")
+    return int(whole) * ONE + int(fraction.ljust(NOTIONAL_AFTER_POINT, b"0"))
+
+
+# The masked notional: "Bands by the exact amount"
+def rounding_step(exact):
+    for bound, step in BANDS:
+        if exact < bound * ONE:
+            return step
+    return STEP_FROM_THERE
+
+
+# The masked notional: "A tie goes up", "never shown below 5"
+def rounded_amount(exact):
+    step = rounding_step(exact) * ONE
+    nearest = (exact + step // 2) // step * step
+    return max(nearest // ONE, LEAST_SHOWN)
+
+
+# The masked notional: "itself a rounded amount" (verdict 2)
+def is_cap(number):
+    return (LOWEST_CAP <= number <= HIGHEST_CAP
+            and rounded_amount(number * ONE) == number)
+
+
+# The masked notional: "An amount above its cap shows the cap and a plus sign",
+# the exact amount and not the rounded one (Misreadings)
+def masked(cap, value):
+    """The number shown and the plus sign, empty where there is none."""
+    exact = exact_amount(value)
+    if exact > cap * ONE:
+        return (cap, b"+")
+    return (rounded_amount(exact), b"")
+
+
+# -------------------------------------------------------------- The tape line
+
+MASKED_LENGTH = 16
+
+
+# The tape line: "A price drops leading zeros before the point, trailing zeros
+# after it, a bare point and the minus of zero; one zero remains"
+def shown_price(value):
+    minus = b"-" if value[0:1] == b"-" else b""
+    whole, _, fraction = value[len(minus):].partition(b".")
+    whole = whole.lstrip(b"0") or b"0"
+    fraction = fraction.rstrip(b"0")
+    number = whole + b"." + fraction if fraction else whole
+    return number if number == b"0" else minus + number
+
+
+# The tape line: 123,16, "zero padded"
+def shown_number(number):
+    return b"%0*d" % (MASKED_LENGTH, number)
+
+
+# Elements, "Truth": "The tape shows T or F"
+def shown_truth(value):
+    return b"T" if value in [b"True", b"true"] else b"F"
+
+
+# The tape line: "What is missing or left out is spaces"
+def shown(message, code):
+    value = element(message, code)
+    if value is None or not if_is_met(message, code):
+        return b""
+    if FORM_OF_CODE[code] == is_truth:
+        return shown_truth(value)
+    if FORM_OF_CODE[code] == is_price:
+        return shown_price(value)
+    return value
+
+
+# The tape line: from 52 up to the newline
+def masked_terms(cap, message):
+    number, plus = masked(cap, element(message, 20))
+    fields = [
+        (20, shown(message, 6)),
+        (10, shown(message, 7)),
+        (10, shown(message, 8)),
+        (1, shown(message, 10)),
+        (1, shown(message, 11)),
+        (1, shown(message, 12)),
+        (1, shown(message, 13)),
+        (1, shown(message, 15)),
+        (20, shown(message, 17)),
+        (1, shown(message, 18)),
+        (3, shown(message, 19)),
+        (2, shown(message, 25)),
+        (MASKED_LENGTH, shown_number(number)),
+        (1, plus),
+        (3, shown(message, 21)),
+        (2, shown(message, 22)),
+    ]
+    return b"".join(value.ljust(length) for length, value in fields)
+
+
+# ------------------------------------------------------------ Verdict numbers
+
+PRICE_DIGITS_OF_NOTATION_3 = 11
+PRICE_AFTER_POINT_OF_NOTATION_3 = 10
+
+
+def read_date(value):
+    return (int(value[0:4]), int(value[5:7]), int(value[8:10]))
+
+
+def read_time(value):
+    return (read_date(value[0:10])
+            + (int(value[11:13]), int(value[14:16]), int(value[17:19])))
+
+
+# Verdict numbers, 12: digits as sent, leading zeros count
+def price_is_too_long(message):
+    if not if_is_met(message, 17) or element(message, 18) != b"3":
+        return False
+    whole, _, fraction = element(message, 17).lstrip(b"-").partition(b".")
+    return (len(whole) + len(fraction) > PRICE_DIGITS_OF_NOTATION_3
+            or len(fraction) > PRICE_AFTER_POINT_OF_NOTATION_3)
+
+
+# Verdict numbers, 13
+def order_is_wrong(message):
+    effective, expiration, settlement = [read_date(element(message, code))
+                                         for code in [7, 8, 9]]
+    reporting, execution = [read_time(element(message, code))
+                            for code in [5, 6]]
+    return (expiration < effective or settlement < expiration
+            or reporting < execution)
+
+
+# Verdict numbers, 5 to 13 in checking order
+def verdict(message):
+    """The first rule that the message breaks and the element it names."""
+    if not layout_is_right(message):
+        return (5, 0)
+    action = element(message, 2)
+    if action is None or not is_action(action):
+        return (6, 2)
+    sent, _ = header(message)
+    missing = [code for code in FORM_OF_CODE
+               if needs(action, code) and code not in sent]
+    if missing:
+        return (7, min(missing))
+    not_taken = [code for code in sent if not takes(action, code)]
+    if not_taken:
+        return (8, min(not_taken))
+    broken = [code for code in sent
+              if not FORM_OF_CODE[code](element(message, code))]
+    if broken:
+        return (9, min(broken))
+    if not pair_is_allowed(action, element(message, 3)):
+        return (10, 0)
+    missing = [code for code in CONDITIONAL
+               if if_is_met(message, code) and code not in sent]
+    if missing:
+        return (11, min(missing))
+    if price_is_too_long(message):
+        return (12, 0)
+    if action in FULL_ACTIONS and order_is_wrong(message):
+        return (13, 0)
+    return (0, 0)
+
+
 # ------------------------------------------------------------ the table's lines
 
 LONGEST_LINE = 5000
@@ -343,7 +557,9 @@ HEX_DIGITS = b"0123456789abcdef"
 HIGHEST_ASKED_IN_MESSAGE = 99
 HIGHEST_ASKED_OF_ACTION = 30
 HIGHEST_ASKED_STATUS = 9
+HIGHEST_ASKED_AS_CAP = 2 ** 64 - 1
 MISSING = "-"
+END_OF_TERMS = b"|"
 
 FORMS = {
     b"uti": is_uti,
@@ -452,6 +668,48 @@ def answer_line(rest):
     return yes_or_no(writes_line(read_action(rest)))
 
 
+def read_cap(text):
+    cap = read_number(text, HIGHEST_CAP)
+    if cap < LOWEST_CAP:
+        raise Malformed("a cap is below %d" % LOWEST_CAP)
+    return cap
+
+
+def answer_cap(rest):
+    return yes_or_no(is_cap(read_number(rest, HIGHEST_ASKED_AS_CAP)))
+
+
+def answer_masked(rest):
+    cap, value = read_fields(rest, [2])
+    cap = read_cap(cap)
+    if not is_notional(value):
+        raise Malformed("the amount breaks the form of code 20")
+    number, plus = masked(cap, value)
+    return (shown_number(number) + plus).decode("ascii")
+
+
+def answer_shown(rest):
+    if not is_price(rest):
+        raise Malformed("the price breaks the form of code 17")
+    return shown_price(rest).decode("ascii")
+
+
+def answer_terms(rest):
+    cap, text = read_fields(rest, [2])
+    cap = read_cap(cap)
+    message = read_hex(text)
+    if verdict(message) != (0, 0):
+        raise Malformed("terms are asked of a message with verdict %d" %
+                        verdict(message)[0])
+    if element(message, 2) not in FULL_ACTIONS:
+        raise Malformed("terms are asked of a message that is not full")
+    return (masked_terms(cap, message) + END_OF_TERMS).decode("ascii")
+
+
+def answer_verdict(rest):
+    return "%d %d" % verdict(read_hex(rest))
+
+
 QUESTIONS = {
     b"layout": answer_layout,
     b"element": answer_element,
@@ -460,6 +718,11 @@ QUESTIONS = {
     b"takes": answer_takes,
     b"needs": answer_needs,
     b"line": answer_line,
+    b"cap": answer_cap,
+    b"masked": answer_masked,
+    b"shown": answer_shown,
+    b"terms": answer_terms,
+    b"verdict": answer_verdict,
 }
 
 

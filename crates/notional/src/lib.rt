@@ -17,7 +17,7 @@ const LEAST_SHOWN: u64 = 5;
 
 const SMALLEST_CAP: u64 = 1_000;
 
-const LARGEST_CAP: u64 = 1_000_000_000_000_000;
+pub const LARGEST_CAP: u64 = 1_000_000_000_000_000;
 
 // The number of a digit; what is no digit counts 0.
 fn digit_of(b: u8) -> u64

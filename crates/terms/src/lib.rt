@@ -26,54 +26,57 @@ use elements::SETTLEMENT_LOCATION;
 use octets::field_at;
 
 // Lengths of the fields.
-const TIME: usize = 20;
+const TIME_SIZE: usize = 20;
 
-const DATE: usize = 10;
+const DATE_SIZE: usize = 10;
 
-const MARK: usize = 1;
+const MARK_SIZE: usize = 1;
 
-const PRICE: usize = 20;
+pub const PRICE_SIZE: usize = 20;
 
-const CURRENCY: usize = 3;
+const CURRENCY_SIZE: usize = 3;
 
-const CLASS: usize = 2;
+const CLASS_SIZE: usize = 2;
 
-const NOTIONAL: usize = 16;
+pub const NOTIONAL_SIZE: usize = 16;
 
-const LOCATION: usize = 2;
+const LOCATION_SIZE: usize = 2;
 
 // Where each field starts in the terms.
 const EXECUTION_AT: usize = 0;
 
-const EFFECTIVE_AT: usize = EXECUTION_AT + TIME;
+const EFFECTIVE_AT: usize = EXECUTION_AT + TIME_SIZE;
 
-const EXPIRATION_AT: usize = EFFECTIVE_AT + DATE;
+const EXPIRATION_AT: usize = EFFECTIVE_AT + DATE_SIZE;
 
-const CLEARED_AT: usize = EXPIRATION_AT + DATE;
+const CLEARED_AT: usize = EXPIRATION_AT + DATE_SIZE;
 
-const NON_STANDARDIZED_AT: usize = CLEARED_AT + MARK;
+const NON_STANDARDIZED_AT: usize = CLEARED_AT + MARK_SIZE;
 
-const BLOCK_AT: usize = NON_STANDARDIZED_AT + MARK;
+const BLOCK_AT: usize = NON_STANDARDIZED_AT + MARK_SIZE;
 
-const LARGE_AT: usize = BLOCK_AT + MARK;
+const LARGE_AT: usize = BLOCK_AT + MARK_SIZE;
 
-const PACKAGE_AT: usize = LARGE_AT + MARK;
+const PACKAGE_AT: usize = LARGE_AT + MARK_SIZE;
 
-const PRICE_AT: usize = PACKAGE_AT + MARK;
+const PRICE_AT: usize = PACKAGE_AT + MARK_SIZE;
 
-const NOTATION_AT: usize = PRICE_AT + PRICE;
+const NOTATION_AT: usize = PRICE_AT + PRICE_SIZE;
 
-const PRICE_CURRENCY_AT: usize = NOTATION_AT + MARK;
+const PRICE_CURRENCY_AT: usize = NOTATION_AT + MARK_SIZE;
 
-const CLASS_AT: usize = PRICE_CURRENCY_AT + CURRENCY;
+const CLASS_AT: usize = PRICE_CURRENCY_AT + CURRENCY_SIZE;
 
-const NOTIONAL_AT: usize = CLASS_AT + CLASS;
+const NOTIONAL_AT: usize = CLASS_AT + CLASS_SIZE;
 
-const PLUS_AT: usize = NOTIONAL_AT + NOTIONAL;
+const PLUS_AT: usize = NOTIONAL_AT + NOTIONAL_SIZE;
 
-const NOTIONAL_CURRENCY_AT: usize = PLUS_AT + MARK;
+const NOTIONAL_CURRENCY_AT: usize = PLUS_AT + MARK_SIZE;
 
-const LOCATION_AT: usize = NOTIONAL_CURRENCY_AT + CURRENCY;
+const LOCATION_AT: usize = NOTIONAL_CURRENCY_AT + CURRENCY_SIZE;
+
+// The size of the terms.
+pub const SIZE: usize = LOCATION_AT + LOCATION_SIZE;
 
 // Writes the value of an element; spaces where it is missing or left out.
 fn text_at(dst: &mut [u8], at: usize, n: usize, m: &[u8], code: u16)
@@ -90,14 +93,14 @@ fn truth_at(dst: &mut [u8], at: usize, m: &[u8], code: u16)
 {
     let v = elements::kept(m, code);
     if v.len() == 0 {
-        field_at(dst, at, MARK, v);
+        field_at(dst, at, MARK_SIZE, v);
         return;
     }
     if values::is_true(v) {
-        field_at(dst, at, MARK, b"T");
+        field_at(dst, at, MARK_SIZE, b"T");
         return;
     }
-    field_at(dst, at, MARK, b"F");
+    field_at(dst, at, MARK_SIZE, b"F");
 }
 
 // Writes the package price; spaces where it is missing or left out.
@@ -119,10 +122,10 @@ fn plus_at(dst: &mut [u8], at: usize, plus: bool)
     ensures { λ _. ⌜ now (dst .exit) ≡ splice (now (dst .entry)) at (field 1 (plusText plus)) ⌝ }
 {
     if plus {
-        field_at(dst, at, MARK, b"+");
+        field_at(dst, at, MARK_SIZE, b"+");
         return;
     }
-    octets::fill_at(dst, at, MARK, b' ');
+    octets::fill_at(dst, at, MARK_SIZE, b' ');
 }
 
 // Execution time, effective and expiration date, Cleared.
@@ -130,10 +133,10 @@ fn write_dates(dst: &mut [u8], m: &[u8])
     requires { ⌜ length (now dst) ≡ termsSize ⌝ }
     ensures { λ _. ⌜ now (dst .exit) ≡ written (dateFields (now (m .entry))) (now (dst .entry)) ⌝ }
 {
-    text_at(dst, EXECUTION_AT, TIME, m, EXECUTION_TIME);
-    text_at(dst, EFFECTIVE_AT, DATE, m, EFFECTIVE_DATE);
-    text_at(dst, EXPIRATION_AT, DATE, m, EXPIRATION_DATE);
-    text_at(dst, CLEARED_AT, MARK, m, CLEARED);
+    text_at(dst, EXECUTION_AT, TIME_SIZE, m, EXECUTION_TIME);
+    text_at(dst, EFFECTIVE_AT, DATE_SIZE, m, EFFECTIVE_DATE);
+    text_at(dst, EXPIRATION_AT, DATE_SIZE, m, EXPIRATION_DATE);
+    text_at(dst, CLEARED_AT, MARK_SIZE, m, CLEARED);
 }
 
 // Non-standardized term, block and large notional election, package.
@@ -152,9 +155,9 @@ fn write_package(dst: &mut [u8], m: &[u8])
     requires { ⌜ length (now dst) ≡ termsSize ⌝ }
     ensures { λ _. ⌜ now (dst .exit) ≡ written (priceFields (now (m .entry))) (now (dst .entry)) ⌝ }
 {
-    package_price_at(dst, PRICE_AT, PRICE, m);
-    text_at(dst, NOTATION_AT, MARK, m, PRICE_NOTATION);
-    text_at(dst, PRICE_CURRENCY_AT, CURRENCY, m, PRICE_CURRENCY);
+    package_price_at(dst, PRICE_AT, PRICE_SIZE, m);
+    text_at(dst, NOTATION_AT, MARK_SIZE, m, PRICE_NOTATION);
+    text_at(dst, PRICE_CURRENCY_AT, CURRENCY_SIZE, m, PRICE_CURRENCY);
 }
 
 // Asset class, notional with its plus sign, notional currency, location.
@@ -163,11 +166,17 @@ fn write_notional(dst: &mut [u8], m: &[u8], cap: u64)
     ensures { λ _. ⌜ now (dst .exit) ≡ written (notionalFields cap (now (m .entry))) (now (dst .entry)) ⌝ }
 {
     let masked = notional::mask(elements::kept(m, NOTIONAL_AMOUNT), cap);
-    text_at(dst, CLASS_AT, CLASS, m, ASSET_CLASS);
-    octets::digits_at(dst, NOTIONAL_AT, NOTIONAL, masked.units);
+    text_at(dst, CLASS_AT, CLASS_SIZE, m, ASSET_CLASS);
+    octets::digits_at(dst, NOTIONAL_AT, NOTIONAL_SIZE, masked.units);
     plus_at(dst, PLUS_AT, masked.plus);
-    text_at(dst, NOTIONAL_CURRENCY_AT, CURRENCY, m, NOTIONAL_CURRENCY);
-    text_at(dst, LOCATION_AT, LOCATION, m, SETTLEMENT_LOCATION);
+    text_at(
+        dst,
+        NOTIONAL_CURRENCY_AT,
+        CURRENCY_SIZE,
+        m,
+        NOTIONAL_CURRENCY,
+    );
+    text_at(dst, LOCATION_AT, LOCATION_SIZE, m, SETTLEMENT_LOCATION);
 }
 
 // Writes the masked terms of a full message under the cap that applies.

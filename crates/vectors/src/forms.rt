@@ -1,7 +1,6 @@
 // The forms of values, by their place in the list of words.
+use crate::LONGEST_MESSAGE;
 use crate::hex;
-
-const LONGEST_MESSAGE: usize = 2048;
 
 pub const COUNT: usize = 17;
 

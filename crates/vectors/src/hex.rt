@@ -64,6 +64,14 @@ fn say_digit(n: u8)
     say(&[b'a' + (n - 10)]);
 }
 
+// A number of one or two decimal digits.
+pub fn say_number(n: u8) {
+    if 10 <= n {
+        say_digit(n / 10 % 10);
+    }
+    say_digit(n % 10);
+}
+
 fn say_byte(b: u8) {
     say_digit(b / 16);
     say_digit(b % 16);

@@ -5,28 +5,56 @@ ghost use lib.ListN.{length};
 
 mod forms;
 mod hex;
+mod lines;
 mod tables;
 
 use libc::STDIN_FILENO;
 use octets::part_of;
 
-// The longest input that is read.
-const INPUT: usize = 262144;
+// The longest line, and the most lines that are read.
+const LINE: usize = 5000;
+
+const LINES: usize = 1_000_000;
+
+// The longest message.
+const LONGEST_MESSAGE: usize = 2048;
 
 fn main() {
-    let mut input = [0u8; INPUT];
-    let n = io::read_full(STDIN_FILENO, &mut input);
-    answer_lines(&input[..n]);
+    let mut left: usize = LINES;
+    while 0 < left {
+        if !answer_next() {
+            return;
+        }
+        left -= 1;
+    }
 }
 
-fn answer_lines(input: &[u8]) {
-    let mut at: usize = 0;
-    while at < input.len() {
-        let rest = part_of(input, at, input.len());
-        let n = place_of(rest, b'\n');
-        answer_line(part_of(rest, 0, n));
-        at = at + n + 1;
+// Reads a line and answers it; false where there is none.
+fn answer_next() -> bool {
+    let mut line = [0u8; LINE];
+    let n = read_line(&mut line);
+    if LINE < n {
+        return false;
     }
+    answer_line(part_of(&line, 0, n));
+    true
+}
+
+// Reads a line, byte by byte: its length, or a number above the room for it where the input ends.
+fn read_line(line: &mut [u8]) -> usize {
+    let mut n: usize = 0;
+    while n < line.len() {
+        let mut byte = [0u8; 1];
+        if io::read_full(STDIN_FILENO, &mut byte) == 0 {
+            return line.len() + 1;
+        }
+        if byte[0] == b'\n' {
+            return n;
+        }
+        line[n] = byte[0];
+        n += 1;
+    }
+    n
 }
 
 // The place of the first byte that is b, or the length where there is none.
@@ -79,6 +107,11 @@ fn answer(word: &[u8], rest: &[u8]) {
     let table = tables::place(word);
     if table < tables::COUNT {
         tables::answer(table, rest);
+        return;
+    }
+    let line = lines::place(word);
+    if line < lines::COUNT {
+        lines::answer(line, rest);
         return;
     }
     if octets::same(word, b"element") {
