@@ -47,13 +47,19 @@ gregorian y m d = both (leb firstYear y) (both (within 1 12 m) (within 1 (daysIn
 unfoldable pub namesDate : List ℕ → Bool
 namesDate v = gregorian (twoDigits v 0 * 100 + twoDigits v 2) (twoDigits v 5) (twoDigits v 8)
 
+abbrev pub datePattern : List ℕ
+datePattern = text "0000-00-00"
+
 unfoldable pub isDate : List ℕ → Bool
-isDate v = both (fitsPattern (text "0000-00-00") v) (namesDate v)
+isDate v = both (fitsPattern datePattern v) (namesDate v)
+
+abbrev pub timePattern : List ℕ
+timePattern = text "0000-00-00T00:00:00Z"
 
 -- hours 00 to 23, minutes and seconds 00 to 59
 unfoldable pub isTime : List ℕ → Bool
 isTime v =
-    both (fitsPattern (text "0000-00-00T00:00:00Z") v)
+    both (fitsPattern timePattern v)
     (both (namesDate v) (both (ltb (twoDigits v 11) 24) (both (ltb (twoDigits v 14) 60) (ltb (twoDigits v 17) 60))))
 
 -- a date before a date, a time before a time (verdict 13): places are fixed and the most significant comes first, so bytes are in the order of time

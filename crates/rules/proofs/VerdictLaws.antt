@@ -1,22 +1,29 @@
 -- Document 01, 'Verdict numbers', in words: what verdict and element say of a message. Assumes nothing.
 use Prim.Native.Nat.{ℕ, suc, _<_}
 use native.Mathlib.Omega.{arith}
-use mathlib.Core.Bool.{Bool, true, false}
+use mathlib.Core.Bool.{Bool, true, false, not, false≢true}
 use mathlib.Core.Path.{_≡_, refl, sym, ap, _∙_}
-use mathlib.Core.List.{List}
+use mathlib.Core.List.{List, [], _∷_}
 use lib.ListN.{length}
 use lib.Dec.{eqb, lit<}
 use borrow.Author.Tests.{eqb-true}
+use Prim.Native.String.{String}
+use Rattle.octets.specs.Choice.{choose, both}
+use Rattle.octets.specs.Text.{text}
+use Rattle.octets.specs.Same.{sameBytes, beside}
+use Rattle.octets.proofs.ChoiceLaws.{both-first, both-second}
 use Rattle.message.specs.Values.{value}
 use Rattle.actions.specs.declared.Action.{Action}
 use Rattle.actions.specs.declared.Checked.{Checked}
 use Rattle.actions.specs.declared.Checked.the-variants.{Fault, Value}
-use Rattle.actions.specs.Actions.{actionCode, actionOf}
+use Rattle.actions.specs.Actions.{actionCode, actionCodes, actionOf}
+use Rattle.actions.specs.Elements.{hasLayout}
+use Rattle.elements.specs.Forms.{isRead}
 use Rattle.rules.specs.declared.checks.Check.{Check}
 use Rattle.rules.specs.declared.checks.Check.the-variants.{Needed, Taken, Formed, Due}
-use Rattle.rules.specs.Verdicts.{neededMissing, notTaken, formBroken, dueMissing}
-use Rattle.rules.specs.Findings.{passed, broken, lowest, firstBroken}
-use Rattle.rules.specs.Rules.{atFault, rulesOf, rulesFor, rules, verdict, conclude, judged, verdictOf}
+use Rattle.rules.specs.Verdicts.{layoutWrong, noAction, neededMissing, notTaken, formBroken, dueMissing}
+use Rattle.rules.specs.Findings.{passed, broken, brokenIf, lowest, firstBroken}
+use Rattle.rules.specs.Rules.{atFault, finding, rulesOf, rulesFor, rules, verdict, conclude, judged, verdictOf}
 use Rattle.rules.proofs.JudgeLaws.{neededAt, takenAt, formedAt, dueAt}
 use Rattle.rules.proofs.FindingLaws.{numberAt, findingAt, rising, FirstBroken, broken-first, first-broken, all-passed, none-broken, LowestAtFault, lowest-broken}
 
@@ -46,19 +53,70 @@ numberOf Taken = notTaken
 numberOf Formed = formBroken
 numberOf Due = dueMissing
 
--- where 7, 8, 9 or 11 is the verdict, the element is at fault and no lower one is
-pub names-lowest : (longest : ℕ) (m : List ℕ) (a : Action) (k : Check) (e : ℕ) → actionOf (value actionCode m) ≡ Value a → verdict longest m ≡ (numberOf k, e) → LowestAtFault (atFault k a m) e
-unfolding verdict rulesFor rulesOf
-names-lowest longest m a k e r v = lowest-broken (atFault k a m) e (by k (ap (λ s. firstBroken (rulesFor s longest m)) (sym r) ∙ v))
-  where
-    at : (i : ℕ) → i < length (rulesOf a m) → firstBroken (rulesFor (Value a) longest m) ≡ (numberAt (rulesOf a m) i, e) → findingAt (rulesOf a m) i ≡ broken e
-    at i h w = broken-first 0 (rulesFor (Value a) longest m) (suc (suc i)) e (rise (Value a) longest m) (omega arith) w .0
+-- ---- the element that a verdict names
 
-    by : (k : Check) → firstBroken (rulesFor (Value a) longest m) ≡ (numberOf k, e) → lowest (atFault k a m) ≡ broken e
-    by Needed w = at neededAt (lit< tt) w
-    by Taken w = at takenAt (lit< tt) w
-    by Formed w = at formedAt (lit< tt) w
-    by Due w = at dueAt (lit< tt) w
+-- a test names no element
+of-test : (t : Bool) (e : ℕ) → brokenIf t ≡ broken e → e ≡ 0
+of-test true e f = cc
+of-test false e f =
+    let z : _≡_ {A = ℕ} 0 1 = cc in
+    absurd (omega arith)
+
+of-finding : (r : Checked) (e : ℕ) → finding r ≡ broken e → r ≡ Fault e
+of-finding (Fault code) e f = cc
+of-finding (Value a) e f =
+    let z : _≡_ {A = ℕ} 0 1 = cc in
+    absurd (omega arith)
+
+-- a table of codes that are all read gives no other fault than that of a code that it has not
+allRead : List (String × Checked) → Bool
+allRead [] = true
+allRead (c ∷ cs) = both (isRead (c .1)) (allRead cs)
+
+fault-code : (table : List (String × Checked)) (v : List ℕ) (e : ℕ) → allRead table ≡ true → beside table (Fault actionCode) v ≡ Fault e → e ≡ actionCode
+unfolding beside allRead
+fault-code [] v e all f = cc
+fault-code (c ∷ cs) v e all f =
+    by (sameBytes v (text (c .0))) (c .1) (both-first (isRead (c .1)) (allRead cs) all) f (fault-code cs v e (both-second (isRead (c .1)) (allRead cs) all))
+  where
+    by : (t : Bool) (r : Checked) → isRead r ≡ true → choose t r (beside cs (Fault actionCode) v) ≡ Fault e → (beside cs (Fault actionCode) v ≡ Fault e → e ≡ actionCode) → e ≡ actionCode
+    by true (Fault d) is g rest = absurd (false≢true is)
+    by true (Value a) is g rest =
+        let z : _≡_ {A = ℕ} 0 1 = cc in
+        absurd (omega arith)
+    by false r is g rest = rest g
+
+module _ (longest : ℕ) (m : List ℕ) (a : Action) (read : actionOf (value actionCode m) ≡ Value a) where
+  -- a rule for the action whose number is the verdict is broken
+  broken-at : (i e : ℕ) → i < length (rulesOf a m) → verdict longest m ≡ (numberAt (rulesOf a m) i, e) → findingAt (rulesOf a m) i ≡ broken e
+  unfolding verdict rulesFor
+  broken-at i e h v = broken-first 0 (rulesFor (Value a) longest m) (suc (suc i)) e (rise (Value a) longest m) (omega arith) (ap (λ r. firstBroken (rulesFor r longest m)) (sym read) ∙ v) .0
+
+  -- 7, 8, 9 and 11: the element is at fault and no lower one is
+  pub names-lowest : (k : Check) (e : ℕ) → verdict longest m ≡ (numberOf k, e) → LowestAtFault (atFault k a m) e
+  unfolding rulesOf
+  names-lowest k e v = lowest-broken (atFault k a m) e (by k v)
+    where
+      by : (k : Check) → verdict longest m ≡ (numberOf k, e) → lowest (atFault k a m) ≡ broken e
+      by Needed w = broken-at neededAt e (lit< tt) w
+      by Taken w = broken-at takenAt e (lit< tt) w
+      by Formed w = broken-at formedAt e (lit< tt) w
+      by Due w = broken-at dueAt e (lit< tt) w
+
+  -- 10, 12 and 13, which are tests of the message as a whole: the element is 0
+  pub names-none : (i e : ℕ) (t : Bool) → i < length (rulesOf a m) → findingAt (rulesOf a m) i ≡ brokenIf t → verdict longest m ≡ (numberAt (rulesOf a m) i, e) → e ≡ 0
+  names-none i e t h f v = of-test t e (sym f ∙ broken-at i e h v)
+
+-- 5: the element is 0
+pub layout-names-none : (longest : ℕ) (m : List ℕ) (e : ℕ) → verdict longest m ≡ (layoutWrong, e) → e ≡ 0
+unfolding verdict rulesFor
+layout-names-none longest m e v = of-test (not (hasLayout longest m)) e (broken-first 0 (rules longest m) 0 e (numbers-rise longest m) (omega arith) v .0)
+
+-- 6: the element is the action's
+pub action-names-itself : (longest : ℕ) (m : List ℕ) (e : ℕ) → verdict longest m ≡ (noAction, e) → e ≡ actionCode
+unfolding verdict rulesFor actionOf allRead
+action-names-itself longest m e v =
+    fault-code actionCodes (value actionCode m) e refl (of-finding (actionOf (value actionCode m)) e (broken-first 0 (rules longest m) 1 e (numbers-rise longest m) (omega arith) v .0))
 
 -- the answer of judging has the verdict's number and element
 pub judged-verdict : (longest : ℕ) (m : List ℕ) → verdictOf (judged longest m) ≡ verdict longest m

@@ -34,7 +34,7 @@ abbrev pub answerOf : Action → Finding → Checked
 answerOf a passed = checked.Value a
 answerOf a (broken code) = checked.Fault code
 
--- an element is at fault by a rule that names the lowest one
+-- an element is at fault: it is needed and missing (7), there and not taken (8), there in a broken form (9), or due under its condition and missing (11)
 abbrev pub atFault : Check → Action → List ℕ → ℕ → Bool
 atFault Needed a m code = both (needs a code) (isMissing code m)
 atFault Taken a m code = both (not (isMissing code m)) (not (takes a code))
@@ -42,14 +42,14 @@ atFault Formed a m code = both (not (isMissing code m)) (not (hasForm code (valu
 atFault Due a m code = both (isDue code m) (isMissing code m)
 
 -- a price with notation 3 has at most 11 digits, 10 after the point (12)
-abbrev pub noteDigits : ℕ
-noteDigits = 11
+abbrev pub notationThreeDigits : ℕ
+notationThreeDigits = 11
 
-abbrev pub noteDecimals : ℕ
-noteDecimals = 10
+abbrev pub notationThreeDecimals : ℕ
+notationThreeDecimals = 10
 
 unfoldable pub longPrice : List ℕ → Bool
-longPrice v = either (ltb noteDigits (length (wholeOf v) + length (decimalsOf v))) (ltb noteDecimals (length (decimalsOf v)))
+longPrice v = either (ltb notationThreeDigits (length (wholeOf v) + length (decimalsOf v))) (ltb notationThreeDecimals (length (decimalsOf v)))
 
 unfoldable pub priceTooLong : List ℕ → Bool
 priceTooLong m = both (isPackage m) (both (notationIs (text "3") m) (longPrice (unsignedOf (value packagePrice m))))

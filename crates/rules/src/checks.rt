@@ -22,9 +22,9 @@ pub enum Check {
 }
 
 // The most digits of a price with notation 3, in all and after the point.
-const NOTE_DIGITS: usize = 11;
+const NOTATION_THREE_DIGITS: usize = 11;
 
-const NOTE_DECIMALS: usize = 10;
+const NOTATION_THREE_DECIMALS: usize = 10;
 
 // Whether an element is at fault.
 fn is_at_fault(m: &[u8], action: Action, check: Check, code: u16) -> bool
@@ -78,10 +78,10 @@ fn is_long_price(v: &[u8]) -> bool
 {
     let whole = numbers::whole_of(v);
     let decimals = numbers::decimals_of(v);
-    if NOTE_DIGITS < whole.len() + decimals.len() {
+    if NOTATION_THREE_DIGITS < whole.len() + decimals.len() {
         return true;
     }
-    NOTE_DECIMALS < decimals.len()
+    NOTATION_THREE_DECIMALS < decimals.len()
 }
 
 // Whether the price of a package with notation 3 is too long.

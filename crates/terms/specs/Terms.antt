@@ -12,7 +12,7 @@ use Rattle.elements.specs.Codes.{executionTime, effectiveDate, expirationDate, 
 use Rattle.elements.specs.Conditions.{kept}
 use Rattle.notional.specs.Amount.{amount}
 use Rattle.notional.specs.Masking.{over, shown}
-use Rattle.price.specs.Price.{empty, shownPrice}
+use Rattle.price.specs.Price.{priceSize, empty, shownPrice}
 
 -- where the terms start in a line, and where they end: the newline's offset
 abbrev pub termsStart : ℕ
@@ -75,7 +75,7 @@ truthFields m =
 -- price, notation, price currency
 unfoldable pub priceFields : List ℕ → List LineField
 priceFields m =
-    (97, 20, priceText (kept packagePrice m))
+    (97, priceSize, priceText (kept packagePrice m))
     ∷ (117, 1, kept priceNotation m)
     ∷ (118, 3, kept priceCurrency m)
     ∷ []
