@@ -1,14 +1,14 @@
 -- Laws of specs/Findings.antt: the first rule broken, and the lowest element at fault, in words. Assumes nothing.
 use Prim.Native.Nat.{ℕ, zero, suc, _+_, _-_, _<_, _≤_}
-use mathlib.Core.Bool.{Bool, true, false, false≢true}
+use mathlib.Core.Bool.{Bool, true, false, not, false≢true}
 use mathlib.Core.Path.{_≡_, refl, sym, ap, _∙_, subst}
 use mathlib.Core.List.{List, [], _∷_}
 use native.Mathlib.Nat.{not-suc-le-zero, le-of-suc-le-suc}
 use native.Mathlib.Omega.{arith}
 use lib.ListN.{length, getD, drop}
 use lib.Seq.{drop-cons}
-use lib.Dec.{leb, ltb}
-use borrow.Author.Tests.{ltb-true, le-leb, leb-true, leb-false}
+use lib.Dec.{leb, ltb, eqb}
+use borrow.Author.Tests.{ltb-true, eq-eqb, le-leb, leb-true, leb-false}
 use Rattle.octets.specs.Choice.{choose, both}
 use Rattle.octets.specs.Search.{firstFrom}
 use Rattle.octets.proofs.ChoiceLaws.{both-first, both-second}
@@ -44,65 +44,71 @@ module _ (rs : List (ℕ × Finding)) (k : ℕ) (h : k < length rs) where
 abbrev pub FirstBroken : List (ℕ × Finding) → ℕ → ℕ → Type 0
 FirstBroken rs i e = (findingAt rs i ≡ broken e) × ((j : ℕ) → j < i → findingAt rs j ≡ passed)
 
--- the numbers of the rules rise from above k
-unfoldable pub rising : ℕ → List (ℕ × Finding) → Bool
-rising k [] = true
-rising k (r ∷ rs) = both (ltb k (r .0)) (rising (r .0) rs)
+-- no rule has the number n
+unfoldable pub unused : ℕ → List (ℕ × Finding) → Bool
+unused n [] = true
+unused n (r ∷ rs) = both (not (eqb (r .0) n)) (unused n rs)
 
-module _ (k : ℕ) (r : ℕ × Finding) (rs : List (ℕ × Finding)) (up : rising k (r ∷ rs) ≡ true) where
-  head-above : k < r .0
-  unfolding rising
-  head-above = ltb-true k (r .0) (both-first (ltb k (r .0)) (rising (r .0) rs) up)
+-- no rule has the number 0, and no two have the same
+unfoldable pub distinct : List (ℕ × Finding) → Bool
+distinct [] = true
+distinct (r ∷ rs) = both (ltb 0 (r .0)) (both (unused (r .0) rs) (distinct rs))
 
-  tail-rising : rising (r .0) rs ≡ true
-  unfolding rising
-  tail-rising = both-second (ltb k (r .0)) (rising (r .0) rs) up
+module _ (r : ℕ × Finding) (rs : List (ℕ × Finding)) (ok : distinct (r ∷ rs) ≡ true) where
+  head-some : 0 < r .0
+  unfolding distinct
+  head-some = ltb-true 0 (r .0) (both-first (ltb 0 (r .0)) (both (unused (r .0) rs) (distinct rs)) ok)
 
-above : (k : ℕ) (rs : List (ℕ × Finding)) (i : ℕ) → rising k rs ≡ true → i < length rs → k < numberAt rs i
-above k [] i up h = absurd (not-suc-le-zero h)
-above k (r ∷ rs) zero up h = head-above k r rs up
-above k (r ∷ rs) (suc i) up h =
-    let a = head-above k r rs up in
-    let b = above (r .0) rs i (tail-rising k r rs up) (le-of-suc-le-suc h) in
-    omega arith
+  head-unused : unused (r .0) rs ≡ true
+  unfolding distinct
+  head-unused = both-first (unused (r .0) rs) (distinct rs) (both-second (ltb 0 (r .0)) (both (unused (r .0) rs) (distinct rs)) ok)
 
--- no later rule has an earlier one's number
-not-later : (n k : ℕ) (rs : List (ℕ × Finding)) → 0 < n → n ≤ k → rising k rs ≡ true → firstBroken rs .0 ≡ n → ⊥
+  tail-distinct : distinct rs ≡ true
+  unfolding distinct
+  tail-distinct = both-second (unused (r .0) rs) (distinct rs) (both-second (ltb 0 (r .0)) (both (unused (r .0) rs) (distinct rs)) ok)
+
+module _ (n : ℕ) (r : ℕ × Finding) (rs : List (ℕ × Finding)) (free : unused n (r ∷ rs) ≡ true) where
+  head-other : r .0 ≡ n → ⊥
+  unfolding unused
+  head-other e = false≢true (sym (ap not (eq-eqb (r .0) n e)) ∙ both-first (not (eqb (r .0) n)) (unused n rs) free)
+
+  tail-unused : unused n rs ≡ true
+  unfolding unused
+  tail-unused = both-second (not (eqb (r .0) n)) (unused n rs) free
+
+other-number : (n : ℕ) (rs : List (ℕ × Finding)) (i : ℕ) → unused n rs ≡ true → i < length rs → numberAt rs i ≡ n → ⊥
+other-number n [] i free h e = not-suc-le-zero h
+other-number n (r ∷ rs) zero free h e = head-other n r rs free e
+other-number n (r ∷ rs) (suc i) free h e = other-number n rs i (tail-unused n r rs free) (le-of-suc-le-suc h) e
+
+-- a number that no rule has is not the verdict
+not-verdict : (n : ℕ) (rs : List (ℕ × Finding)) → 0 < n → unused n rs ≡ true → firstBroken rs .0 ≡ n → ⊥
 unfolding firstBroken
-not-later n k [] p h up e = omega arith
-not-later n k (r ∷ rs) p h up e =
-    let a = head-above k r rs up in
-    by (r .1) e (not-later n (r .0) rs p (omega arith) (tail-rising k r rs up))
+not-verdict n [] p free e = omega arith
+not-verdict n (r ∷ rs) p free e = by (r .1) e (not-verdict n rs p (tail-unused n r rs free))
   where
     by : (f : Finding) → orElse (r .0) f (firstBroken rs) .0 ≡ n → (firstBroken rs .0 ≡ n → ⊥) → ⊥
     by passed e′ rest = rest e′
-    by (broken d) e′ rest =
-        let a = head-above k r rs up in
-        omega arith
+    by (broken d) e′ rest = head-other n r rs free e′
 
 -- the verdict is that of a rule exactly where the rule is broken and no earlier one is
-pub broken-first : (k : ℕ) (rs : List (ℕ × Finding)) (i e : ℕ) → rising k rs ≡ true → i < length rs → firstBroken rs ≡ (numberAt rs i, e) → FirstBroken rs i e
+pub broken-first : (rs : List (ℕ × Finding)) (i e : ℕ) → distinct rs ≡ true → i < length rs → firstBroken rs ≡ (numberAt rs i, e) → FirstBroken rs i e
 unfolding firstBroken
-broken-first k [] i e up h v = absurd (not-suc-le-zero h)
-broken-first k (r ∷ rs) zero e up h v = by (r .1) refl v
+broken-first [] i e ok h v = absurd (not-suc-le-zero h)
+broken-first (r ∷ rs) zero e ok h v = by (r .1) refl v
   where
     by : (f : Finding) → r .1 ≡ f → orElse (r .0) f (firstBroken rs) ≡ (r .0, e) → FirstBroken (r ∷ rs) zero e
-    by passed g w =
-        let a = head-above k r rs up in
-        absurd (not-later (r .0) (r .0) rs (omega arith) (omega arith) (tail-rising k r rs up) (ap (λ p. p .0) w))
+    by passed g w = absurd (not-verdict (r .0) rs (head-some r rs ok) (head-unused r rs ok) (ap (λ p. p .0) w))
     by (broken d) g w = (g ∙ ap (λ p. broken (p .1)) w, λ j l. absurd (not-suc-le-zero l))
-broken-first k (r ∷ rs) (suc i) e up h v = by (r .1) refl v (broken-first (r .0) rs i e (tail-rising k r rs up) (le-of-suc-le-suc h))
+broken-first (r ∷ rs) (suc i) e ok h v = by (r .1) refl v (broken-first rs i e (tail-distinct r rs ok) (le-of-suc-le-suc h))
   where
+    before-it : r .1 ≡ passed → ((j : ℕ) → j < i → findingAt rs j ≡ passed) → (j : ℕ) → j < suc i → findingAt (r ∷ rs) j ≡ passed
+    before-it g all zero l = g
+    before-it g all (suc j) l = all j (le-of-suc-le-suc l)
+
     by : (f : Finding) → r .1 ≡ f → orElse (r .0) f (firstBroken rs) ≡ (numberAt rs i, e) → (firstBroken rs ≡ (numberAt rs i, e) → FirstBroken rs i e) → FirstBroken (r ∷ rs) (suc i) e
-    by passed g w rest = (rest w .0, first g (rest w .1))
-      where
-        first : r .1 ≡ passed → ((j : ℕ) → j < i → findingAt rs j ≡ passed) → (j : ℕ) → j < suc i → findingAt (r ∷ rs) j ≡ passed
-        first g′ all zero l = g′
-        first g′ all (suc j) l = all j (le-of-suc-le-suc l)
-    by (broken d) g w rest =
-        let a = above (r .0) rs i (tail-rising k r rs up) (le-of-suc-le-suc h) in
-        let same : r .0 ≡ numberAt rs i = ap (λ p. p .0) w in
-        absurd (omega arith)
+    by passed g w rest = (rest w .0, before-it g (rest w .1))
+    by (broken d) g w rest = absurd (other-number (r .0) rs i (head-unused r rs ok) (le-of-suc-le-suc h) (sym (ap (λ p. p .0) w)))
 
 pub first-broken : (rs : List (ℕ × Finding)) (i e : ℕ) → i < length rs → FirstBroken rs i e → firstBroken rs ≡ (numberAt rs i, e)
 unfolding firstBroken
@@ -113,17 +119,15 @@ first-broken (r ∷ rs) (suc i) e h b =
     rw here (first-broken rs i e (le-of-suc-le-suc h) (b .0, λ j l. b .1 (suc j) (omega arith)))
 
 -- a message is accepted exactly where every rule is passed
-pub all-passed : (k : ℕ) (rs : List (ℕ × Finding)) → rising k rs ≡ true → firstBroken rs .0 ≡ 0 → (i : ℕ) → i < length rs → findingAt rs i ≡ passed
+pub all-passed : (rs : List (ℕ × Finding)) → distinct rs ≡ true → firstBroken rs .0 ≡ 0 → (i : ℕ) → i < length rs → findingAt rs i ≡ passed
 unfolding firstBroken
-all-passed k [] up v i h = absurd (not-suc-le-zero h)
-all-passed k (r ∷ rs) up v i h = by (r .1) refl v (all-passed (r .0) rs (tail-rising k r rs up)) i h
+all-passed [] ok v i h = absurd (not-suc-le-zero h)
+all-passed (r ∷ rs) ok v i h = by (r .1) refl v (all-passed rs (tail-distinct r rs ok)) i h
   where
     by : (f : Finding) → r .1 ≡ f → orElse (r .0) f (firstBroken rs) .0 ≡ 0 → (firstBroken rs .0 ≡ 0 → (j : ℕ) → j < length rs → findingAt rs j ≡ passed) → (j : ℕ) → j < suc (length rs) → findingAt (r ∷ rs) j ≡ passed
     by passed g w rest zero l = g
     by passed g w rest (suc j) l = rest w j (le-of-suc-le-suc l)
-    by (broken d) g w rest j l =
-        let a = head-above k r rs up in
-        absurd (omega arith)
+    by (broken d) g w rest j l = absurd (omega (arith, head-some r rs ok))
 
 pub none-broken : (rs : List (ℕ × Finding)) → ((i : ℕ) → i < length rs → findingAt rs i ≡ passed) → firstBroken rs ≡ (0, 0)
 unfolding firstBroken

@@ -25,26 +25,26 @@ use Rattle.rules.specs.Verdicts.{layoutWrong, noAction, neededMissing, n
 use Rattle.rules.specs.Findings.{passed, broken, brokenIf, lowest, firstBroken}
 use Rattle.rules.specs.Rules.{atFault, finding, rulesOf, rulesFor, rules, verdict, conclude, judged, verdictOf}
 use Rattle.rules.proofs.JudgeLaws.{neededAt, takenAt, formedAt, dueAt}
-use Rattle.rules.proofs.FindingLaws.{numberAt, findingAt, rising, FirstBroken, broken-first, first-broken, all-passed, none-broken, LowestAtFault, lowest-broken}
+use Rattle.rules.proofs.FindingLaws.{numberAt, findingAt, unused, distinct, FirstBroken, broken-first, first-broken, all-passed, none-broken, LowestAtFault, lowest-broken}
 
--- the numbers of the rules rise in checking order, from above 0
-rise : (r : Checked) (longest : ℕ) (m : List ℕ) → rising 0 (rulesFor r longest m) ≡ true
-unfolding rulesFor rising rulesOf
-rise (Fault code) longest m = refl
-rise (Value a) longest m = refl
+-- no two rules have the same number, and none has 0
+differ : (r : Checked) (longest : ℕ) (m : List ℕ) → distinct (rulesFor r longest m) ≡ true
+unfolding rulesFor unused distinct rulesOf
+differ (Fault code) longest m = refl
+differ (Value a) longest m = refl
 
-pub numbers-rise : (longest : ℕ) (m : List ℕ) → rising 0 (rules longest m) ≡ true
-numbers-rise longest m = rise (actionOf (value actionCode m)) longest m
+pub numbers-differ : (longest : ℕ) (m : List ℕ) → distinct (rules longest m) ≡ true
+numbers-differ longest m = differ (actionOf (value actionCode m)) longest m
 
 -- the verdict is that of rule i, with element e, exactly where rule i is broken, names e, and no earlier one is broken
 pub verdict-exactly : (longest : ℕ) (m : List ℕ) (i e : ℕ) → i < length (rules longest m) → (verdict longest m ≡ (numberAt (rules longest m) i, e) → FirstBroken (rules longest m) i e) × (FirstBroken (rules longest m) i e → verdict longest m ≡ (numberAt (rules longest m) i, e))
 unfolding verdict
-verdict-exactly longest m i e h = (broken-first 0 (rules longest m) i e (numbers-rise longest m) h, first-broken (rules longest m) i e h)
+verdict-exactly longest m i e h = (broken-first (rules longest m) i e (numbers-differ longest m) h, first-broken (rules longest m) i e h)
 
 -- the verdict is 0 exactly where every rule is passed; it names no element then
 pub accepted-exactly : (longest : ℕ) (m : List ℕ) → (verdict longest m .0 ≡ 0 → (i : ℕ) → i < length (rules longest m) → findingAt (rules longest m) i ≡ passed) × (((i : ℕ) → i < length (rules longest m) → findingAt (rules longest m) i ≡ passed) → verdict longest m ≡ (0, 0))
 unfolding verdict
-accepted-exactly longest m = (all-passed 0 (rules longest m) (numbers-rise longest m), none-broken (rules longest m))
+accepted-exactly longest m = (all-passed (rules longest m) (numbers-differ longest m), none-broken (rules longest m))
 
 -- the number of a check in document 01
 abbrev pub numberOf : Check → ℕ
@@ -90,7 +90,7 @@ module _ (longest : ℕ) (m : List ℕ) (a : Action) (read : actionOf (value act
   -- a rule for the action whose number is the verdict is broken
   broken-at : (i e : ℕ) → i < length (rulesOf a m) → verdict longest m ≡ (numberAt (rulesOf a m) i, e) → findingAt (rulesOf a m) i ≡ broken e
   unfolding verdict rulesFor
-  broken-at i e h v = broken-first 0 (rulesFor (Value a) longest m) (suc (suc i)) e (rise (Value a) longest m) (omega arith) (ap (λ r. firstBroken (rulesFor r longest m)) (sym read) ∙ v) .0
+  broken-at i e h v = broken-first (rulesFor (Value a) longest m) (suc (suc i)) e (differ (Value a) longest m) (omega arith) (ap (λ r. firstBroken (rulesFor r longest m)) (sym read) ∙ v) .0
 
   -- 7, 8, 9 and 11: the element is at fault and no lower one is
   pub names-lowest : (k : Check) (e : ℕ) → verdict longest m ≡ (numberOf k, e) → LowestAtFault (atFault k a m) e
@@ -110,13 +110,13 @@ module _ (longest : ℕ) (m : List ℕ) (a : Action) (read : actionOf (value act
 -- 5: the element is 0
 pub layout-names-none : (longest : ℕ) (m : List ℕ) (e : ℕ) → verdict longest m ≡ (layoutWrong, e) → e ≡ 0
 unfolding verdict rulesFor
-layout-names-none longest m e v = of-test (not (hasLayout longest m)) e (broken-first 0 (rules longest m) 0 e (numbers-rise longest m) (omega arith) v .0)
+layout-names-none longest m e v = of-test (not (hasLayout longest m)) e (broken-first (rules longest m) 0 e (numbers-differ longest m) (omega arith) v .0)
 
 -- 6: the element is the action's
 pub action-names-itself : (longest : ℕ) (m : List ℕ) (e : ℕ) → verdict longest m ≡ (noAction, e) → e ≡ actionCode
 unfolding verdict rulesFor actionOf allRead
 action-names-itself longest m e v =
-    fault-code actionCodes (value actionCode m) e refl (of-finding (actionOf (value actionCode m)) e (broken-first 0 (rules longest m) 1 e (numbers-rise longest m) (omega arith) v .0))
+    fault-code actionCodes (value actionCode m) e refl (of-finding (actionOf (value actionCode m)) e (broken-first (rules longest m) 1 e (numbers-differ longest m) (omega arith) v .0))
 
 -- the answer of judging has the verdict's number and element
 pub judged-verdict : (longest : ℕ) (m : List ℕ) → verdictOf (judged longest m) ≡ verdict longest m
