@@ -1,5 +1,5 @@
 -- Laws of `before`: for a loop that compares at place i, and that it is the order of time. Assumes nothing.
-use Prim.Native.Nat.{ℕ, zero, suc, _+_, _-_, _*_, _<_, _≤_}
+use Prim.Native.Nat.{ℕ, _+_, _-_, _*_, _<_, _≤_}
 use Prim.Native.Char.{code}
 use mathlib.Core.Bool.{Bool, true, false, false≢true}
 use mathlib.Core.Path.{_≡_, refl, sym, ap, _∙_}
@@ -13,6 +13,7 @@ use Rattle.octets.specs.Search.{allFrom}
 use Rattle.octets.proofs.ChoiceLaws.{both-first, both-second}
 use Rattle.values.specs.Run.{inClass}
 use Rattle.values.specs.declared.run.Class.the-variants.{Digit}
+use Rattle.octets.proofs.SearchLaws.{all-shift}
 use Rattle.octets.proofs.WriteLaws.{drop-next}
 use Rattle.dates.specs.Dates.{fitsByte, fitsAt, fitsPattern, datePattern, isDate, timePattern, isTime, before}
 
@@ -154,11 +155,6 @@ rowFits [] (x ∷ v) = false
 rowFits (q ∷ p) [] = false
 rowFits (q ∷ p) (x ∷ v) = both (fitsByte q x) (rowFits p v)
 
-shift : (f : ℕ → Bool) (k d : ℕ) → allFrom f (suc k) d ≡ allFrom (λ i. f (suc i)) k d
-unfolding allFrom
-shift f k zero = refl
-shift f k (suc d) = ap (both (f (suc k))) (shift f (suc k) d)
-
 row-fits : (p v : List ℕ) → length v ≡ length p → allFrom (fitsAt p v) 0 (length v) ≡ true → rowFits p v ≡ true
 unfolding rowFits allFrom
 row-fits [] [] l e = refl
@@ -167,7 +163,7 @@ row-fits (q ∷ p) [] l e = absurd (omega arith)
 row-fits (q ∷ p) (x ∷ v) l e =
     let here : fitsByte q x ≡ true = both-first (fitsByte q x) (allFrom (fitsAt (q ∷ p) (x ∷ v)) 1 (length v)) e in
     let more : allFrom (fitsAt (q ∷ p) (x ∷ v)) 1 (length v) ≡ true = both-second (fitsByte q x) (allFrom (fitsAt (q ∷ p) (x ∷ v)) 1 (length v)) e in
-    rw here (row-fits p v (omega arith) (sym (shift (fitsAt (q ∷ p) (x ∷ v)) 0 (length v)) ∙ more))
+    rw here (row-fits p v (omega arith) (sym (all-shift (fitsAt (q ∷ p) (x ∷ v)) 0 (length v)) ∙ more))
 
 alike-fits : (p a b : List ℕ) → rowFits p a ≡ true → rowFits p b ≡ true → allAlike a b ≡ true
 unfolding rowFits allAlike

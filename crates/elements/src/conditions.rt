@@ -1,6 +1,5 @@
 // Elements that are needed under a condition, and what is left out where it is not met.
 ghost use mathlib.Core.Path.{_≡_};
-ghost use Rattle.octets.specs.Part.{PartOf};
 ghost use Rattle.elements.specs.Conditions.{isMissing, isPackage, notationIs, conditionOf, met, isConditional, isDue, kept};
 use crate::codes::CLEARED;
 use crate::codes::NON_STANDARDIZED_TERM;

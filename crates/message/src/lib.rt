@@ -1,6 +1,6 @@
 // A message: its layout, and the value of an element as that part of the message itself.
 ghost use mathlib.Core.Path.{_≡_};
-ghost use mathlib.Core.Bool.{Bool, false};
+ghost use mathlib.Core.Bool.{false};
 ghost use Prim.Native.Nat.{_<_};
 ghost use lib.ListN.{getD};
 ghost use Rattle.octets.specs.Part.{PartOf};

@@ -1,5 +1,5 @@
 -- Laws of specs/Masking.antt. Assumes nothing.
-use Prim.Native.Nat.{ℕ, _+_, _*_, _^_, _<_, _≤_, min}
+use Prim.Native.Nat.{ℕ, _+_, _*_, _<_, _≤_, min}
 use mathlib.Core.Bool.{Bool, true, false}
 use mathlib.Core.Path.{_≡_, refl, sym}
 use native.Mathlib.Omega.{arith}
@@ -80,6 +80,6 @@ largest-own : rounded (largestCap * unit) ≡ largestCap
 unfolding rounded step stepIn bands nearest
 largest-own = refl
 
--- the 16 digits of a line hold what is shown
-pub shown-fits : (cap a : ℕ) → cap ≤ largestCap → shown cap a < 10 ^ 16
-shown-fits cap a h = omega (arith, shown-below cap largestCap a h largest-own)
+-- nor does what is shown under any number up to the largest cap exceed that
+pub shown-largest : (cap a : ℕ) → cap ≤ largestCap → shown cap a ≤ largestCap
+shown-largest cap a h = shown-below cap largestCap a h largest-own

@@ -4,8 +4,8 @@ use native.Mathlib.Numerals.{add-one}
 use native.Mathlib.Nat.{add-zero, not-suc-le-zero, le-of-suc-le-suc}
 use native.Mathlib.Omega.{arith}
 use mathlib.Core.Bool.{Bool, true, false}
-use mathlib.Core.Path.{_≡_, refl}
-use Rattle.octets.specs.Choice.{choose}
+use mathlib.Core.Path.{_≡_, refl, ap}
+use Rattle.octets.specs.Choice.{choose, both}
 use Rattle.octets.specs.Search.{firstFrom, allFrom}
 use Rattle.octets.proofs.WriteLaws.{left-one}
 use Rattle.octets.proofs.ChoiceLaws.{both-first, both-second}
@@ -49,6 +49,12 @@ all-at f k (suc d) zero h e = rw (add-zero k) (both-first (f k) (allFrom f (suc 
 all-at f k (suc d) (suc i) h e =
     let p : suc k + i ≡ k + suc i = omega arith in
     rw p at (all-at f (suc k) d i (le-of-suc-le-suc h) (both-second (f k) (allFrom f (suc k) d) e))
+
+-- the range one on, as the range of the test one on
+pub all-shift : (f : ℕ → Bool) (k d : ℕ) → allFrom f (suc k) d ≡ allFrom (λ i. f (suc i)) k d
+unfolding allFrom
+all-shift f k zero = refl
+all-shift f k (suc d) = ap (both (f (suc k))) (all-shift f (suc k) d)
 
 -- the first number that passes f passes f, and is in the range or just past it
 pub first-passes : (f : ℕ → Bool) (k d : ℕ) → firstFrom f k d < k + d → f (firstFrom f k d) ≡ true

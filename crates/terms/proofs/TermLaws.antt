@@ -1,27 +1,28 @@
 -- Laws of specs/Terms.antt. Assumes nothing.
-use Prim.Native.Nat.{ℕ, _+_, _-_, _<_}
+use Prim.Native.Nat.{ℕ, _-_, _^_, _<_, _≤_}
 use mathlib.Core.Bool.{Bool, true}
 use mathlib.Core.Path.{_≡_, refl, sym, ap, _∙_}
-use mathlib.Core.List.{List, [], _∷_, _++_}
-use lib.ListN.{length, getD}
+use mathlib.Core.List.{List, [], _++_}
+use lib.ListN.{length, getD, drop-of-length-le}
 use native.Mathlib.Omega.{arith}
 use borrow.Author.Tests.{eq-eqb, ne-eqb}
 use Rattle.octets.specs.Choice.{choose}
 use Rattle.octets.specs.Text.{text}
 use Rattle.values.specs.Code.{isTrue}
+use Rattle.notional.specs.Masking.{largestCap, shown}
+use Rattle.notional.proofs.MaskingLaws.{shown-largest}
 use Rattle.price.specs.Price.{shownPrice}
 use Rattle.octets.specs.Part.{part}
 use Rattle.octets.specs.Field.{field}
 use Rattle.octets.proofs.PartLaws.{splice-all}
-use Rattle.terms.specs.Terms.{termsStart, termsEnd, termsSize, written, shownTruth, priceText, dateFields, truthFields, priceFields, notionalFields, termFields, termsOf}
+use Rattle.terms.specs.Terms.{termsStart, termsEnd, termsSize, notionalDigits, written, shownTruth, priceText, dateFields, truthFields, priceFields, notionalFields, termFields, termsOf}
 use Rattle.terms.proofs.FieldRun.{inPlace, length-bytes, written-append, written-row, noField, field-placed}
 
 -- ---- what is shown of a value
 
 -- a value without bytes
 nothing : (v : List ℕ) → length v ≡ 0 → v ≡ []
-nothing [] e = refl
-nothing (b ∷ v) e = absurd (omega arith)
+nothing v e = drop-of-length-le v {i = 0} (omega arith)
 
 pub truth-none : (v : List ℕ) → length v ≡ 0 → v ≡ shownTruth v
 unfolding shownTruth
@@ -38,6 +39,10 @@ price-none v e = rw (eq-eqb _ _ e) (nothing v e)
 pub price-some : (v : List ℕ) → (length v ≡ 0 → ⊥) → shownPrice v ≡ priceText v
 unfolding priceText
 price-some v some = rw (ne-eqb _ _ some)
+
+-- the digits of the notional hold what is shown
+pub notional-fits : (cap a : ℕ) → cap ≤ largestCap → shown cap a < 10 ^ notionalDigits
+notional-fits cap a h = omega (arith, shown-largest cap a h)
 
 -- ---- the terms as a whole
 

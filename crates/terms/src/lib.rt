@@ -1,6 +1,6 @@
 // The masked terms of a full message: document 01, 'The tape line', from 52 up to the newline.
 ghost use mathlib.Core.Path.{_≡_};
-ghost use Prim.Native.Nat.{_+_, _-_, _≤_};
+ghost use Prim.Native.Nat.{_+_, _≤_};
 ghost use lib.ListN.{length};
 ghost use Rattle.octets.specs.Part.{splice};
 ghost use Rattle.octets.specs.Field.{field};
