@@ -61,3 +61,13 @@ writesLine Term = true
 writesLine Eror = true
 writesLine Revi = true
 writesLine Prto = false
+
+-- NEWT is a new swap's; any other action is for a swap that has a row
+abbrev pub isNew : Action → Bool
+isNew Newt = true
+isNew Modi = false
+isNew Corr = false
+isNew Term = false
+isNew Eror = false
+isNew Revi = false
+isNew Prto = false

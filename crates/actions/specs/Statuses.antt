@@ -1,5 +1,6 @@
 -- Document 01, 'Statuses'.
 use Prim.Native.Nat.{ℕ}
+use mathlib.Core.Bool.{Bool, true, false}
 use lib.Dec.{eqb}
 use Rattle.octets.specs.Choice.{choose, either}
 use Rattle.actions.specs.declared.Action.{Action}
@@ -33,3 +34,13 @@ nextStatus Term s = choose (eqb s live) closed noStep
 nextStatus Eror s = choose (either (eqb s live) (eqb s closed)) errored noStep
 nextStatus Revi s = choose (either (eqb s errored) (eqb s closed)) live noStep
 nextStatus Prto s = choose (eqb s live) ported noStep
+
+-- MODI and REVI repeat the stored execution timestamp; CORR may mend it
+abbrev pub repeatsTime : Action → Bool
+repeatsTime Newt = false
+repeatsTime Modi = true
+repeatsTime Corr = false
+repeatsTime Term = false
+repeatsTime Eror = false
+repeatsTime Revi = true
+repeatsTime Prto = false

@@ -8,11 +8,12 @@ pub use elements::has_layout;
 pub use elements::is_needed;
 pub use elements::is_taken;
 pub use matrix::is_pair;
+pub use statuses::repeats_time;
 pub use statuses::status_after;
 ghost use mathlib.Core.Path.{_≡_};
 ghost use Prim.Native.Nat.{_<_};
 ghost use lib.ListN.{length};
-ghost use Rattle.actions.specs.Actions.{allActions, rowOf, isFull, writesLine, actionOf};
+ghost use Rattle.actions.specs.Actions.{allActions, rowOf, isFull, writesLine, isNew, actionOf};
 use values::is_code;
 
 pub enum Action {
@@ -110,6 +111,21 @@ pub fn writes_line(a: Action) -> bool
         Action::Term => true,
         Action::Eror => true,
         Action::Revi => true,
+        Action::Prto => false,
+    }
+}
+
+// Whether the action is that of a new swap.
+pub fn is_new(a: Action) -> bool
+    ensures { λ r. ⌜ r ≡ isNew a ⌝ }
+{
+    match a {
+        Action::Newt => true,
+        Action::Modi => false,
+        Action::Corr => false,
+        Action::Term => false,
+        Action::Eror => false,
+        Action::Revi => false,
         Action::Prto => false,
     }
 }

@@ -1,6 +1,6 @@
 // The steps of a swap's status.
 ghost use mathlib.Core.Path.{_≡_};
-ghost use Rattle.actions.specs.Statuses.{nextStatus};
+ghost use Rattle.actions.specs.Statuses.{nextStatus, repeatsTime};
 use crate::ACTIONS;
 use crate::Action;
 use crate::row_of;
@@ -29,4 +29,19 @@ pub fn status_after(a: Action, status: u8) -> u8
     let row = row_of(a);
     let column = status as usize;
     STEPS[row][column]
+}
+
+// Whether a message of the action repeats the stored execution time.
+pub fn repeats_time(a: Action) -> bool
+    ensures { λ r. ⌜ r ≡ repeatsTime a ⌝ }
+{
+    match a {
+        Action::Newt => false,
+        Action::Modi => true,
+        Action::Corr => false,
+        Action::Term => false,
+        Action::Eror => false,
+        Action::Revi => true,
+        Action::Prto => false,
+    }
 }

@@ -1,8 +1,14 @@
 -- Document 01, 'Elements': the codes of the elements that a rule or the tape line speaks of by name.
 use Prim.Native.Nat.{ℕ}
 
+abbrev pub uti : ℕ
+uti = 1
+
 abbrev pub eventType : ℕ
 eventType = 3
+
+abbrev pub eventTime : ℕ
+eventTime = 4
 
 abbrev pub reportingTime : ℕ
 reportingTime = 5

@@ -1,5 +1,9 @@
 // The codes of the elements, as specs/Codes.antt has them.
+pub const UTI: u16 = 1;
+
 pub const EVENT_TYPE: u16 = 3;
+
+pub const EVENT_TIME: u16 = 4;
 
 pub const REPORTING_TIME: u16 = 5;
 

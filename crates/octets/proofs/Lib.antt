@@ -5,3 +5,4 @@ pub mod SameLaws
 pub mod NumberLaws
 pub mod WriteLaws
 pub mod FieldLaws
+pub mod FieldRun

@@ -90,3 +90,32 @@ first-from f k (suc d) = go (f k) (first-from f (suc k) d)
     go : (t : Bool) → suc k ≤ firstFrom f (suc k) d → k ≤ choose t k (firstFrom f (suc k) d)
     go true l = omega arith
     go false l = omega arith
+
+-- two tests that agree on the range have the same first number
+pub first-same : (f g : ℕ → Bool) (k d : ℕ) → ((i : ℕ) → i < k + d → f i ≡ g i) → firstFrom f k d ≡ firstFrom g k d
+unfolding firstFrom
+first-same f g k zero e = refl
+first-same f g k (suc d) e =
+    let here : f k ≡ g k = e k (omega arith) in
+    rw (here, first-same f g (suc k) d (λ i h. e i (omega arith)))
+
+-- the range with one number more at its end: the first one stays, or it is asked of that number
+pub first-stays : (f : ℕ → Bool) (k d : ℕ) → firstFrom f k d < k + d → firstFrom f k (suc d) ≡ firstFrom f k d
+unfolding firstFrom
+first-stays f k zero h = absurd (omega arith)
+first-stays f k (suc d) h = go (f k) h (first-stays f (suc k) d)
+  where
+    go : (t : Bool) → choose t k (firstFrom f (suc k) d) < k + suc d → (firstFrom f (suc k) d < suc k + d → firstFrom f (suc k) (suc d) ≡ firstFrom f (suc k) d) → choose t k (firstFrom f (suc k) (suc d)) ≡ choose t k (firstFrom f (suc k) d)
+    go true h' ih = refl
+    go false h' ih = ih (omega arith)
+
+pub first-last : (f : ℕ → Bool) (k d : ℕ) → k + d ≤ firstFrom f k d → firstFrom f k (suc d) ≡ choose (f (k + d)) (k + d) (suc (k + d))
+unfolding firstFrom
+first-last f k zero h = rw (add-zero k)
+first-last f k (suc d) h = go (f k) h (first-last f (suc k) d)
+  where
+    go : (t : Bool) → k + suc d ≤ choose t k (firstFrom f (suc k) d) → (suc k + d ≤ firstFrom f (suc k) d → firstFrom f (suc k) (suc d) ≡ choose (f (suc k + d)) (suc k + d) (suc (suc k + d))) → choose t k (firstFrom f (suc k) (suc d)) ≡ choose (f (k + suc d)) (k + suc d) (suc (k + suc d))
+    go true h' ih = absurd (omega arith)
+    go false h' ih =
+        let p : suc k + d ≡ k + suc d = omega arith in
+        rw p at (ih (omega arith))

@@ -5,3 +5,4 @@ pub mod Text
 pub mod Same
 pub mod Number
 pub mod Field
+pub mod Fields

@@ -1,3 +1,2 @@
-pub mod FieldRun
 pub mod TermLaws
 pub mod PublicLaws

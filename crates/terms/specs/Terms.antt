@@ -1,12 +1,11 @@
 -- Document 01, 'The tape line': the masked terms, what a full message's elements and a cap put into a line from 52 up to the newline.
-use Prim.Native.Nat.{ℕ, _+_, _-_}
+use Prim.Native.Nat.{ℕ, _-_}
 use mathlib.Core.Bool.{Bool}
 use mathlib.Core.List.{List, [], _∷_, _++_}
 use Rattle.octets.specs.Choice.{choose}
-use Rattle.octets.specs.Part.{splice}
 use Rattle.octets.specs.Text.{text}
 use Rattle.octets.specs.Number.{digits}
-use Rattle.octets.specs.Field.{field}
+use Rattle.octets.specs.Fields.{FieldAt, bytesOf}
 use Rattle.values.specs.Code.{isTrue}
 use Rattle.elements.specs.Codes.{executionTime, effectiveDate, expirationDate, cleared, nonStandardizedTerm, blockElection, largeNotionalElection, packageIndicator, packagePrice, priceNotation, priceCurrency, notionalAmount, notionalCurrency, settlementLocation, assetClass}
 use Rattle.elements.specs.Conditions.{kept}
@@ -24,19 +23,9 @@ termsEnd = 145
 abbrev pub termsSize : ℕ
 termsSize = termsEnd - termsStart
 
--- a field of the tape line: its offset, its length and its text
-abbrev pub LineField : Type 0
-LineField = ℕ × ℕ × List ℕ
-
--- the bytes of fields that follow each other; what is missing or left out is spaces
-unfoldable pub bytesOf : List LineField → List ℕ
-bytesOf [] = []
-bytesOf (f ∷ fs) = field (f .1) (f .2) ++ bytesOf fs
-
--- the terms with fields written at their offsets in the line
-unfoldable pub written : List LineField → List ℕ → List ℕ
-written [] d = d
-written (f ∷ fs) d = written fs (splice d (f .0 - termsStart) (field (f .1) (f .2)))
+-- a time is 20 bytes of a line
+abbrev pub timeSize : ℕ
+timeSize = 20
 
 -- the tape shows T or F
 unfoldable pub shownTruth : List ℕ → List ℕ
@@ -55,16 +44,16 @@ abbrev pub notionalDigits : ℕ
 notionalDigits = 16
 
 -- execution time, effective, expiration, Cleared
-unfoldable pub dateFields : List ℕ → List LineField
+unfoldable pub dateFields : List ℕ → List FieldAt
 dateFields m =
-    (52, 20, kept executionTime m)
+    (termsStart, timeSize, kept executionTime m)
     ∷ (72, 10, kept effectiveDate m)
     ∷ (82, 10, kept expirationDate m)
     ∷ (92, 1, kept cleared m)
     ∷ []
 
 -- non-standardized, block, large, package
-unfoldable pub truthFields : List ℕ → List LineField
+unfoldable pub truthFields : List ℕ → List FieldAt
 truthFields m =
     (93, 1, shownTruth (kept nonStandardizedTerm m))
     ∷ (94, 1, shownTruth (kept blockElection m))
@@ -73,7 +62,7 @@ truthFields m =
     ∷ []
 
 -- price, notation, price currency
-unfoldable pub priceFields : List ℕ → List LineField
+unfoldable pub priceFields : List ℕ → List FieldAt
 priceFields m =
     (97, priceSize, priceText (kept packagePrice m))
     ∷ (117, 1, kept priceNotation m)
@@ -81,7 +70,7 @@ priceFields m =
     ∷ []
 
 -- asset class, notional, plus sign, notional currency, location
-unfoldable pub notionalFields : ℕ → List ℕ → List LineField
+unfoldable pub notionalFields : ℕ → List ℕ → List FieldAt
 notionalFields cap m =
     (121, 2, kept assetClass m)
     ∷ (123, notionalDigits, digits notionalDigits (shown cap (amount (kept notionalAmount m))))
@@ -91,7 +80,7 @@ notionalFields cap m =
     ∷ []
 
 -- the masked terms of a full message under the cap that applies
-unfoldable pub termFields : ℕ → List ℕ → List LineField
+unfoldable pub termFields : ℕ → List ℕ → List FieldAt
 termFields cap m = dateFields m ++ (truthFields m ++ (priceFields m ++ notionalFields cap m))
 
 unfoldable pub termsOf : ℕ → List ℕ → List ℕ

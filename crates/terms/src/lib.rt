@@ -4,10 +4,11 @@ ghost use Prim.Native.Nat.{_+_, _≤_};
 ghost use lib.ListN.{length};
 ghost use Rattle.octets.specs.Part.{splice};
 ghost use Rattle.octets.specs.Field.{field};
+ghost use Rattle.octets.specs.Fields.{written};
 ghost use Rattle.elements.specs.Codes.{packagePrice};
 ghost use Rattle.elements.specs.Conditions.{kept};
 ghost use Rattle.notional.specs.Masking.{largestCap};
-ghost use Rattle.terms.specs.Terms.{termsSize, written, shownTruth, priceText, plusText, dateFields, truthFields, priceFields, notionalFields, termsOf};
+ghost use Rattle.terms.specs.Terms.{termsStart, termsSize, shownTruth, priceText, plusText, dateFields, truthFields, priceFields, notionalFields, termsOf};
 use elements::ASSET_CLASS;
 use elements::BLOCK_ELECTION;
 use elements::CLEARED;
@@ -26,7 +27,7 @@ use elements::SETTLEMENT_LOCATION;
 use octets::field_at;
 
 // Lengths of the fields.
-const TIME_SIZE: usize = 20;
+pub const TIME_SIZE: usize = 20;
 
 const DATE_SIZE: usize = 10;
 
@@ -131,7 +132,7 @@ fn plus_at(dst: &mut [u8], at: usize, plus: bool)
 // Execution time, effective and expiration date, Cleared.
 fn write_dates(dst: &mut [u8], m: &[u8])
     requires { ⌜ length (now dst) ≡ termsSize ⌝ }
-    ensures { λ _. ⌜ now (dst .exit) ≡ written (dateFields (now (m .entry))) (now (dst .entry)) ⌝ }
+    ensures { λ _. ⌜ now (dst .exit) ≡ written termsStart (dateFields (now (m .entry))) (now (dst .entry)) ⌝ }
 {
     text_at(dst, EXECUTION_AT, TIME_SIZE, m, EXECUTION_TIME);
     text_at(dst, EFFECTIVE_AT, DATE_SIZE, m, EFFECTIVE_DATE);
@@ -142,7 +143,7 @@ fn write_dates(dst: &mut [u8], m: &[u8])
 // Non-standardized term, block and large notional election, package.
 fn write_truths(dst: &mut [u8], m: &[u8])
     requires { ⌜ length (now dst) ≡ termsSize ⌝ }
-    ensures { λ _. ⌜ now (dst .exit) ≡ written (truthFields (now (m .entry))) (now (dst .entry)) ⌝ }
+    ensures { λ _. ⌜ now (dst .exit) ≡ written termsStart (truthFields (now (m .entry))) (now (dst .entry)) ⌝ }
 {
     truth_at(dst, NON_STANDARDIZED_AT, m, NON_STANDARDIZED_TERM);
     truth_at(dst, BLOCK_AT, m, BLOCK_ELECTION);
@@ -153,7 +154,7 @@ fn write_truths(dst: &mut [u8], m: &[u8])
 // Price, notation and price currency.
 fn write_package(dst: &mut [u8], m: &[u8])
     requires { ⌜ length (now dst) ≡ termsSize ⌝ }
-    ensures { λ _. ⌜ now (dst .exit) ≡ written (priceFields (now (m .entry))) (now (dst .entry)) ⌝ }
+    ensures { λ _. ⌜ now (dst .exit) ≡ written termsStart (priceFields (now (m .entry))) (now (dst .entry)) ⌝ }
 {
     package_price_at(dst, PRICE_AT, PRICE_SIZE, m);
     text_at(dst, NOTATION_AT, MARK_SIZE, m, PRICE_NOTATION);
@@ -163,7 +164,7 @@ fn write_package(dst: &mut [u8], m: &[u8])
 // Asset class, notional with its plus sign, notional currency, location.
 fn write_notional(dst: &mut [u8], m: &[u8], cap: u64)
     requires { ⌜ (length (now dst) ≡ termsSize) × (cap ≤ largestCap) ⌝ }
-    ensures { λ _. ⌜ now (dst .exit) ≡ written (notionalFields cap (now (m .entry))) (now (dst .entry)) ⌝ }
+    ensures { λ _. ⌜ now (dst .exit) ≡ written termsStart (notionalFields cap (now (m .entry))) (now (dst .entry)) ⌝ }
 {
     let masked = notional::mask(elements::kept(m, NOTIONAL_AMOUNT), cap);
     text_at(dst, CLASS_AT, CLASS_SIZE, m, ASSET_CLASS);

@@ -1,6 +1,6 @@
 -- `terms::write_package` meets its contract. Assumes nothing.
 use Rattle.terms.specs.Terms.{priceFields}
-use Rattle.terms.proofs.FieldRun.{then-written, last-written}
+use Rattle.octets.proofs.FieldRun.{then-written, last-written}
 use borrow.Author.Needs.{needs}
 use Rattle.terms.proofs.write_package.Statement.{statement}
 use Rattle.terms.proofs.write_package.Tie as tie
@@ -10,7 +10,7 @@ unfolding priceFields
 returns c =
     let second = c .before .before .before .before in
     let first = second .before .before .before .before in
-    then-written _ _ _ (first .before .before .package-price-at .ensures) (then-written _ _ _ (second .before .before .text-at .ensures) (last-written _ _ (c .before .before .text-at2 .ensures)))
+    then-written _ _ _ _ (first .before .before .package-price-at .ensures) (then-written _ _ _ _ (second .before .before .text-at .ensures) (last-written _ _ _ (c .before .before .text-at2 .ensures)))
 
 pub write-package-spec : {M : Type 1} → statement M
 write-package-spec =

@@ -1,4 +1,4 @@
--- Fields of the tape line that follow each other: written at their offsets they are their bytes in a row. Assumes nothing.
+-- Laws of specs/Fields.antt: written at their offsets, fields that follow each other are their bytes in a row. Assumes nothing.
 use Prim.Native.Nat.{ℕ, zero, suc, _+_, _-_, _≤_, _<_}
 use mathlib.Core.Bool.{Bool, true}
 use mathlib.Core.Path.{_≡_, refl, sym, ap, _∙_}
@@ -9,39 +9,43 @@ use borrow.Author.Tests.{eqb-true}
 use lib.ListN.{length, getD, take, drop, length-append}
 use lib.Seq.{take-at, drop-at, drop-drop}
 use lib.Dec.{eqb}
 use Rattle.octets.specs.Choice.{both}
 use Rattle.octets.specs.Part.{part, splice}
 use Rattle.octets.specs.Field.{field}
 use Rattle.octets.proofs.ChoiceLaws.{both-first, both-second}
 use Rattle.octets.proofs.PartLaws.{length-splice, splice-splice, splice-none}
-use Rattle.octets.proofs.FieldLaws.{length-field}
-use Rattle.terms.specs.Terms.{LineField, termsStart, bytesOf, written}
+use Rattle.octets.proofs.FieldLaws.{length-field, field-exact}
+use Rattle.octets.specs.Fields.{FieldAt, bytesOf, written}
 
 -- ---- a run of writes
 
 -- a field, then the others
-pub then-written : (f : LineField) (fs : List LineField) (d : List ℕ) {e last : List ℕ} → e ≡ splice d (f .0 - termsStart) (field (f .1) (f .2)) → last ≡ written fs e → last ≡ written (f ∷ fs) d
+pub then-written : (start : ℕ) (f : FieldAt) (fs : List FieldAt) (d : List ℕ) {e last : List ℕ} → e ≡ splice d (f .0 - start) (field (f .1) (f .2)) → last ≡ written start fs e → last ≡ written start (f ∷ fs) d
 unfolding written
-then-written f fs d e l = l ∙ ap (written fs) e
+then-written start f fs d e l = l ∙ ap (written start fs) e
 
 -- the last field
-pub last-written : (f : LineField) (d : List ℕ) {e : List ℕ} → e ≡ splice d (f .0 - termsStart) (field (f .1) (f .2)) → e ≡ written (f ∷ []) d
+pub last-written : (start : ℕ) (f : FieldAt) (d : List ℕ) {e : List ℕ} → e ≡ splice d (f .0 - start) (field (f .1) (f .2)) → e ≡ written start (f ∷ []) d
 unfolding written
-last-written f d e = e
+last-written start f d e = e
 
-pub written-append : (fs gs : List LineField) (d : List ℕ) → written (fs ++ gs) d ≡ written gs (written fs d)
+-- a field whose text is as long as it
+pub exact-text : (f : FieldAt) (d : List ℕ) (at : ℕ) → length (f .2) ≡ f .1 → splice d at (f .2) ≡ splice d at (field (f .1) (f .2))
+exact-text f d at size = ap (splice d at) (sym (field-exact (f .1) (f .2) size))
+
+pub written-append : (start : ℕ) (fs gs : List FieldAt) (d : List ℕ) → written start (fs ++ gs) d ≡ written start gs (written start fs d)
 unfolding written
-written-append [] gs d = refl
-written-append (f ∷ fs) gs d = written-append fs gs _
+written-append start [] gs d = refl
+written-append start (f ∷ fs) gs d = written-append start fs gs _
 
 -- ---- fields without a gap
 
 -- the first field stands at a place, each other one where the one before it ends, and the last one ends at a place
-unfoldable pub inPlace : ℕ → List LineField → ℕ → Bool
+unfoldable pub inPlace : ℕ → List FieldAt → ℕ → Bool
 inPlace at [] end = eqb at end
 inPlace at (f ∷ fs) end = both (eqb (f .0) at) (inPlace (at + f .1) fs end)
 
-module _ (at : ℕ) (f : LineField) (fs : List LineField) (end : ℕ) (ok : inPlace at (f ∷ fs) end ≡ true) where
+module _ (at : ℕ) (f : FieldAt) (fs : List FieldAt) (end : ℕ) (ok : inPlace at (f ∷ fs) end ≡ true) where
   head-place : f .0 ≡ at
   unfolding inPlace
   head-place = eqb-true (f .0) at (both-first (eqb (f .0) at) (inPlace (at + f .1) fs end) ok)
@@ -50,7 +54,7 @@ module _ (at : ℕ) (f : LineField) (fs : List LineField) (end : ℕ) (ok : inPl
   unfolding inPlace
   tail-place = both-second (eqb (f .0) at) (inPlace (at + f .1) fs end) ok
 
-pub length-bytes : (at : ℕ) (fs : List LineField) (end : ℕ) → inPlace at fs end ≡ true → at + length (bytesOf fs) ≡ end
+pub length-bytes : (at : ℕ) (fs : List FieldAt) (end : ℕ) → inPlace at fs end ≡ true → at + length (bytesOf fs) ≡ end
 unfolding bytesOf inPlace
 length-bytes at [] end ok = omega (arith, eqb-true at end ok)
 length-bytes at (f ∷ fs) end ok =
@@ -58,30 +62,30 @@ length-bytes at (f ∷ fs) end ok =
     rw (length-append, length-field) (omega arith)
 
 -- written into bytes that are long enough, fields without a gap are their bytes in a row
-pub written-row : (at : ℕ) (fs : List LineField) (end : ℕ) (d : List ℕ) → inPlace at fs end ≡ true → termsStart ≤ at → end - termsStart ≤ length d → written fs d ≡ splice d (at - termsStart) (bytesOf fs)
+pub written-row : (start at : ℕ) (fs : List FieldAt) (end : ℕ) (d : List ℕ) → inPlace at fs end ≡ true → start ≤ at → end - start ≤ length d → written start fs d ≡ splice d (at - start) (bytesOf fs)
 unfolding written bytesOf
-written-row at [] end d ok l h = sym (splice-none d (at - termsStart))
-written-row at (f ∷ fs) end d ok l h =
+written-row start at [] end d ok l h = sym (splice-none d (at - start))
+written-row start at (f ∷ fs) end d ok l h =
     let here : f .0 ≡ at = head-place at f fs end ok in
     let after = tail-place at f fs end ok in
     let rest : at + f .1 + length (bytesOf fs) ≡ end = length-bytes (at + f .1) fs end after in
     let size : length (field (f .1) (f .2)) ≡ f .1 = length-field (f .1) (f .2) in
-    let first : List ℕ = splice d (at - termsStart) (field (f .1) (f .2)) in
-    let long : length first ≡ length d = length-splice d (field (f .1) (f .2)) (at - termsStart) (omega arith) in
-    let next : at + f .1 - termsStart ≡ at - termsStart + length (field (f .1) (f .2)) = omega arith in
-    rw here (written-row (at + f .1) fs end first after (omega arith) (omega arith) ∙ rw next (splice-splice d (field (f .1) (f .2)) (bytesOf fs) (at - termsStart) (omega arith)))
+    let first : List ℕ = splice d (at - start) (field (f .1) (f .2)) in
+    let long : length first ≡ length d = length-splice d (field (f .1) (f .2)) (at - start) (omega arith) in
+    let next : at + f .1 - start ≡ at - start + length (field (f .1) (f .2)) = omega arith in
+    rw here (written-row start (at + f .1) fs end first after (omega arith) (omega arith) ∙ rw next (splice-splice d (field (f .1) (f .2)) (bytesOf fs) (at - start) (omega arith)))
 
 -- ---- each field stands at its offset
 
-abbrev pub noField : LineField
+abbrev pub noField : FieldAt
 noField = (0, 0, [])
 
-not-before : (at : ℕ) (fs : List LineField) (end k : ℕ) → inPlace at fs end ≡ true → k < length fs → at ≤ getD fs k noField .0
+not-before : (at : ℕ) (fs : List FieldAt) (end k : ℕ) → inPlace at fs end ≡ true → k < length fs → at ≤ getD fs k noField .0
 not-before at [] end k ok h = absurd (not-suc-le-zero h)
 not-before at (f ∷ fs) end zero ok h = omega (arith, head-place at f fs end ok)
 not-before at (f ∷ fs) end (suc k) ok h = omega (arith, not-before (at + f .1) fs end k (tail-place at f fs end ok) (le-of-suc-le-suc h))
 
-pub field-placed : (at : ℕ) (fs : List LineField) (end k : ℕ) → inPlace at fs end ≡ true → k < length fs → part (bytesOf fs) (getD fs k noField .0 - at) (getD fs k noField .1) ≡ field (getD fs k noField .1) (getD fs k noField .2)
+pub field-placed : (at : ℕ) (fs : List FieldAt) (end k : ℕ) → inPlace at fs end ≡ true → k < length fs → part (bytesOf fs) (getD fs k noField .0 - at) (getD fs k noField .1) ≡ field (getD fs k noField .1) (getD fs k noField .2)
 unfolding bytesOf
 field-placed at [] end k ok h = absurd (not-suc-le-zero h)
 field-placed at (f ∷ fs) end zero ok h =

@@ -1,0 +1,95 @@
+-- Document 01, 'The ledger': the header, and when it is right (verdict 3).
+use Prim.Native.Nat.{ℕ, _-_, _/_, min}
+use Prim.Native.String.{String}
+use mathlib.Core.Bool.{Bool}
+use mathlib.Core.List.{List, [], _∷_}
+use lib.ListN.{length}
+use lib.Dec.{eqb, leb}
+use Rattle.octets.specs.Choice.{choose, both}
+use Rattle.octets.specs.Part.{part}
+use Rattle.octets.specs.Number.{fromLe, toLe}
+use Rattle.octets.specs.Same.{beside}
+use Rattle.octets.specs.Fields.{FieldAt, bytesOf}
+use Rattle.values.specs.Run.{within}
+use Rattle.notional.specs.Masking.{isCap}
+use Rattle.ledger.specs.Layout.{u32, u64, rowsAt, firstRowAt, nextAt, capAt, rowSizeAt, capacityAt, headerSize, rowSize, shortestLedger, lastIdentifier}
+use Rattle.ledger.specs.declared.header.Caps.{Caps}
+use Rattle.ledger.specs.declared.header.Header.{Header}
+use Rattle.ledger.specs.declared.header.HeaderCheck.{HeaderCheck}
+use Rattle.ledger.specs.declared.header.HeaderCheck.the-variants.{Fault, Value}
+
+-- ---- the numbers of the header, whatever the bytes
+
+unfoldable pub rowsInUse : List ℕ → ℕ
+rowsInUse l = fromLe (part l rowsAt u32)
+
+unfoldable pub firstRow : List ℕ → ℕ
+firstRow l = fromLe (part l firstRowAt u32)
+
+unfoldable pub nextIdentifier : List ℕ → ℕ
+nextIdentifier l = fromLe (part l nextAt u64)
+
+abbrev pub capIn : ℕ → List ℕ → ℕ
+capIn k l = fromLe (part l (capAt k) u64)
+
+unfoldable pub capsIn : List ℕ → Caps
+capsIn l = record { cr = capIn 0 l; ir = capIn 1 l; fx = capIn 2 l; eq = capIn 3 l; co = capIn 4 l }
+
+unfoldable pub sizeOfRows : List ℕ → ℕ
+sizeOfRows l = fromLe (part l rowSizeAt u32)
+
+unfoldable pub capacityIn : List ℕ → ℕ
+capacityIn l = fromLe (part l capacityAt u32)
+
+-- ---- caps
+
+-- each asset class has one cap; a value that is no class has none
+unfoldable pub capFor : Caps → List ℕ → ℕ
+capFor caps v = beside (("CR", caps .cr) ∷ ("IR", caps .ir) ∷ ("FX", caps .fx) ∷ ("EQ", caps .eq) ∷ ("CO", caps .co) ∷ []) 0 v
+
+-- each cap is in its range and its own rounded amount (verdict 2)
+unfoldable pub areCaps : Caps → Bool
+areCaps caps = both (isCap (caps .cr)) (both (isCap (caps .ir)) (both (isCap (caps .fx)) (both (isCap (caps .eq)) (isCap (caps .co)))))
+
+-- ---- a right header
+
+-- (length - 64) divided by 160, rounded down, or the largest capacity where that is less
+unfoldable pub capacityFor : ℕ → ℕ → ℕ
+capacityFor largest n = min ((n - headerSize) / rowSize) largest
+
+-- the ledger is long enough and its header has the layout, no more rows than capacity, and caps
+unfoldable pub headerRight : ℕ → List ℕ → Bool
+headerRight largest l =
+    both (leb shortestLedger (length l))
+    (both (eqb (firstRow l) headerSize)
+    (both (within 1 lastIdentifier (nextIdentifier l))
+    (both (eqb (sizeOfRows l) rowSize)
+    (both (eqb (capacityIn l) (capacityFor largest (length l)))
+    (both (leb (rowsInUse l) (capacityIn l)) (areCaps (capsIn l)))))))
+
+-- the numbers of a header that a submission goes on with
+unfoldable pub headerOf : List ℕ → Header
+headerOf l = record { rows = rowsInUse l; next = nextIdentifier l; capacity = capacityIn l; caps = capsIn l }
+
+-- what the check of a ledger answers: a fault, or the header's numbers
+unfoldable pub checkedHeader : ℕ → List ℕ → HeaderCheck
+checkedHeader largest l = choose (headerRight largest l) (Value (headerOf l)) Fault
+
+-- ---- the header that opening writes
+
+unfoldable pub headerFields : Caps → ℕ → List FieldAt
+headerFields caps capacity =
+    (rowsAt, u32, toLe u32 0)
+    ∷ (firstRowAt, u32, toLe u32 headerSize)
+    ∷ (nextAt, u64, toLe u64 1)
+    ∷ (capAt 0, u64, toLe u64 (caps .cr))
+    ∷ (capAt 1, u64, toLe u64 (caps .ir))
+    ∷ (capAt 2, u64, toLe u64 (caps .fx))
+    ∷ (capAt 3, u64, toLe u64 (caps .eq))
+    ∷ (capAt 4, u64, toLe u64 (caps .co))
+    ∷ (rowSizeAt, u32, toLe u32 rowSize)
+    ∷ (capacityAt, u32, toLe u32 capacity)
+    ∷ []
+
+unfoldable pub newHeader : Caps → ℕ → List ℕ
+newHeader caps capacity = bytesOf (headerFields caps capacity)
