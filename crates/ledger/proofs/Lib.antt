@@ -1,0 +1,5 @@
+pub mod RowAfterLaws
+pub mod LineLaws
+pub mod ReadBack
+pub mod RowFields
+pub mod RightHeader

@@ -1,0 +1,182 @@
+-- What the header and the rows say of a ledger after a write. Assumes nothing.
+use Prim.Native.Nat.{ℕ, suc, _+_, _*_, _^_, _<_, _≤_}
+use mathlib.Core.Bool.{Bool, true, false}
+use mathlib.Core.Path.{_≡_, refl, ap, _∙_}
+use mathlib.Core.List.{List}
+use native.Mathlib.Omega.{arith}
+use native.Mathlib.Decide.{decLt}
+use lib.ListN.{length}
+use Rattle.octets.specs.Choice.{choose}
+use Rattle.octets.specs.Part.{part, splice}
+use Rattle.octets.specs.Number.{fromLe, toLe}
+use Rattle.octets.proofs.NumberLaws.{length-toLe, fromLe-toLe}
+use Rattle.octets.proofs.PartLaws.{length-splice, part-at, part-before, part-after}
+use Rattle.actions.specs.declared.Action.{Action}
+use Rattle.actions.specs.Actions.{isNew, writesLine}
+use Rattle.ledger.specs.Layout.{u32, u64, rowsAt, nextAt, capsAt, capAt, headerSize, rowSize, rowStart}
+use Rattle.ledger.specs.Header.{rowsInUse, nextIdentifier, capsIn}
+use Rattle.ledger.specs.Rows.{rowAt, withRows, withNext, headerAfter}
+
+-- bytes that a write does not touch: those before it and those after it
+module _ (l ys : List ℕ) (at : ℕ) (h : at + length ys ≤ length l) where
+  rows-beside : u32 ≤ at → rowsInUse (splice l at ys) ≡ rowsInUse l
+  unfolding rowsInUse
+  rows-beside b = ap fromLe (part-before l ys at h rowsAt u32 (omega arith))
+
+  next-before : nextAt + u64 ≤ at → nextIdentifier (splice l at ys) ≡ nextIdentifier l
+  unfolding nextIdentifier
+  next-before b = ap fromLe (part-before l ys at h nextAt u64 b)
+
+  next-after : at + length ys ≤ nextAt → nextIdentifier (splice l at ys) ≡ nextIdentifier l
+  unfolding nextIdentifier
+  next-after b = ap fromLe (part-after l ys at h nextAt u64 b)
+
+  caps-before : capAt 5 ≤ at → capsIn (splice l at ys) ≡ capsIn l
+  unfolding capsIn
+  caps-before b =
+      rw (
+        part-before l ys at h (capAt 0) u64 (omega arith),
+        part-before l ys at h (capAt 1) u64 (omega arith),
+        part-before l ys at h (capAt 2) u64 (omega arith),
+        part-before l ys at h (capAt 3) u64 (omega arith),
+        part-before l ys at h (capAt 4) u64 (omega arith),
+      )
+
+  caps-after : at + length ys ≤ capsAt → capsIn (splice l at ys) ≡ capsIn l
+  unfolding capsIn
+  caps-after b =
+      rw (
+        part-after l ys at h (capAt 0) u64 (omega arith),
+        part-after l ys at h (capAt 1) u64 (omega arith),
+        part-after l ys at h (capAt 2) u64 (omega arith),
+        part-after l ys at h (capAt 3) u64 (omega arith),
+        part-after l ys at h (capAt 4) u64 (omega arith),
+      )
+
+  row-behind : at + length ys ≤ headerSize → (k : ℕ) → rowAt (splice l at ys) k ≡ rowAt l k
+  unfolding rowAt
+  row-behind b k = part-after l ys at h (rowStart k) rowSize (omega arith)
+
+-- ---- a row is written
+
+module _ (l r : List ℕ) (k : ℕ) (size : length r ≡ rowSize) (room : rowStart (suc k) ≤ length l) where
+  fits : rowStart k + length r ≤ length l
+  fits = omega arith
+
+  pub row-length : length (splice l (rowStart k) r) ≡ length l
+  row-length = length-splice l r (rowStart k) fits
+
+  pub row-rows : rowsInUse (splice l (rowStart k) r) ≡ rowsInUse l
+  row-rows = rows-beside l r (rowStart k) fits (omega arith)
+
+  pub row-next : nextIdentifier (splice l (rowStart k) r) ≡ nextIdentifier l
+  row-next = next-before l r (rowStart k) fits (omega arith)
+
+  pub row-caps : capsIn (splice l (rowStart k) r) ≡ capsIn l
+  row-caps = caps-before l r (rowStart k) fits (omega arith)
+
+  pub row-same : rowAt (splice l (rowStart k) r) k ≡ r
+  unfolding rowAt
+  row-same = rw (size) at (part-at l r (rowStart k) fits)
+
+  pub row-other : (j : ℕ) → (j ≡ k → ⊥) → rowAt (splice l (rowStart k) r) j ≡ rowAt l j
+  unfolding rowAt
+  row-other j differ =
+      elim (decLt j k) [
+        | yes b ↦ part-before l r (rowStart k) fits (rowStart j) rowSize (omega arith)
+        | no b ↦ part-after l r (rowStart k) fits (rowStart j) rowSize (omega (arith, differ))
+      ]
+
+-- ---- rows in use are written
+
+module _ (l : List ℕ) (n : ℕ) (room : headerSize ≤ length l) where
+  rows-fit : rowsAt + length (toLe u32 n) ≤ length l
+  rows-fit = omega (arith, length-toLe u32 n)
+
+  pub rows-length : length (withRows n l) ≡ length l
+  unfolding withRows
+  rows-length = length-splice l (toLe u32 n) rowsAt rows-fit
+
+  pub rows-rows : n < 256 ^ u32 → rowsInUse (withRows n l) ≡ n
+  unfolding withRows rowsInUse
+  rows-rows b = ap fromLe (rw (length-toLe u32 n) at (part-at l (toLe u32 n) rowsAt rows-fit)) ∙ fromLe-toLe u32 n b
+
+  pub rows-next : nextIdentifier (withRows n l) ≡ nextIdentifier l
+  unfolding withRows
+  rows-next = next-after l (toLe u32 n) rowsAt rows-fit (omega (arith, length-toLe u32 n))
+
+  pub rows-caps : capsIn (withRows n l) ≡ capsIn l
+  unfolding withRows
+  rows-caps = caps-after l (toLe u32 n) rowsAt rows-fit (omega (arith, length-toLe u32 n))
+
+  pub rows-row : (k : ℕ) → rowAt (withRows n l) k ≡ rowAt l k
+  unfolding withRows
+  rows-row k = row-behind l (toLe u32 n) rowsAt rows-fit (omega (arith, length-toLe u32 n)) k
+
+  -- ---- the next identifier is written
+
+  next-fit : nextAt + length (toLe u64 n) ≤ length l
+  next-fit = omega (arith, length-toLe u64 n)
+
+  pub next-length : length (withNext n l) ≡ length l
+  unfolding withNext
+  next-length = length-splice l (toLe u64 n) nextAt next-fit
+
+  pub next-rows : rowsInUse (withNext n l) ≡ rowsInUse l
+  unfolding withNext
+  next-rows = rows-beside l (toLe u64 n) nextAt next-fit (omega arith)
+
+  pub next-next : n < 256 ^ u64 → nextIdentifier (withNext n l) ≡ n
+  unfolding withNext nextIdentifier
+  next-next b = ap fromLe (rw (length-toLe u64 n) at (part-at l (toLe u64 n) nextAt next-fit)) ∙ fromLe-toLe u64 n b
+
+  pub next-caps : capsIn (withNext n l) ≡ capsIn l
+  unfolding withNext
+  next-caps = caps-after l (toLe u64 n) nextAt next-fit (omega (arith, length-toLe u64 n))
+
+  pub next-row : (k : ℕ) → rowAt (withNext n l) k ≡ rowAt l k
+  unfolding withNext
+  next-row k = row-behind l (toLe u64 n) nextAt next-fit (omega (arith, length-toLe u64 n)) k
+
+-- ---- both are raised, as the action says
+
+module _ (a : Action) (rows next : ℕ) (l : List ℕ) (room : headerSize ≤ length l) where
+  -- what a function says of a ledger stays where neither write touches it
+  stays : {A : Type 0} (f : List ℕ → A) → ((n : ℕ) (d : List ℕ) → headerSize ≤ length d → f (withRows n d) ≡ f d) → ((n : ℕ) (d : List ℕ) → headerSize ≤ length d → f (withNext n d) ≡ f d) → f (headerAfter a rows next l) ≡ f l
+  unfolding headerAfter
+  stays f e g = by (isNew a) (writesLine a)
+    where
+      by : (b c : Bool) → f (choose c (withNext (next + 1) (choose b (withRows (rows + 1) l) l)) (choose b (withRows (rows + 1) l) l)) ≡ f l
+      by true true = g (next + 1) (withRows (rows + 1) l) (omega (arith, rows-length l (rows + 1) room)) ∙ e (rows + 1) l room
+      by true false = e (rows + 1) l room
+      by false true = g (next + 1) l room
+      by false false = refl
+
+  pub raised-caps : capsIn (headerAfter a rows next l) ≡ capsIn l
+  raised-caps = stays capsIn (λ n d h. rows-caps d n h) (λ n d h. next-caps d n h)
+
+  pub raised-row : (k : ℕ) → rowAt (headerAfter a rows next l) k ≡ rowAt l k
+  raised-row k = stays (λ d. rowAt d k) (λ n d h. rows-row d n h k) (λ n d h. next-row d n h k)
+
+  pub raised-length : length (headerAfter a rows next l) ≡ length l
+  raised-length = stays length (λ n d h. rows-length d n h) (λ n d h. next-length d n h)
+
+  pub raised-rows : (isNew a ≡ true → rows + 1 < 256 ^ u32) → rowsInUse (headerAfter a rows next l) ≡ choose (isNew a) (rows + 1) (rowsInUse l)
+  unfolding headerAfter
+  raised-rows fits = by (isNew a) (writesLine a) fits
+    where
+      by : (b c : Bool) → (b ≡ true → rows + 1 < 256 ^ u32) → rowsInUse (choose c (withNext (next + 1) (choose b (withRows (rows + 1) l) l)) (choose b (withRows (rows + 1) l) l)) ≡ choose b (rows + 1) (rowsInUse l)
+      by true true h = next-rows (withRows (rows + 1) l) (next + 1) (omega (arith, rows-length l (rows + 1) room)) ∙ rows-rows l (rows + 1) room (h refl)
+      by true false h = rows-rows l (rows + 1) room (h refl)
+      by false true h = next-rows l (next + 1) room
+      by false false h = refl
+
+  pub raised-next : next + 1 < 256 ^ u64 → nextIdentifier (headerAfter a rows next l) ≡ choose (writesLine a) (next + 1) (nextIdentifier l)
+  unfolding headerAfter
+  raised-next fits = by (isNew a) (writesLine a)
+    where
+      by : (b c : Bool) → nextIdentifier (choose c (withNext (next + 1) (choose b (withRows (rows + 1) l) l)) (choose b (withRows (rows + 1) l) l)) ≡ choose c (next + 1) (nextIdentifier l)
+      by true true = next-next (withRows (rows + 1) l) (next + 1) (omega (arith, rows-length l (rows + 1) room)) fits
+      by true false = rows-next l (rows + 1) room
+      by false true = next-next l (next + 1) room fits
+      by false false = refl

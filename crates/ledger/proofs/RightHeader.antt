@@ -1,0 +1,76 @@
+-- A right header, clause by clause. Assumes nothing.
+use Prim.Native.Nat.{ℕ, _+_, _-_, _*_, _/_, _≤_, min}
+use mathlib.Core.Bool.{Bool, true}
+use mathlib.Core.Path.{_≡_, refl}
+use mathlib.Core.List.{List}
+use native.Mathlib.Omega.{arith}
+use lib.ListN.{length}
+use lib.Dec.{eqb, leb}
+use borrow.Author.Tests.{eqb-true, leb-true, eq-eqb, le-leb}
+use Rattle.octets.specs.Choice.{both}
+use Rattle.octets.proofs.ChoiceLaws.{both-first, both-second}
+use Rattle.values.specs.Run.{within}
+use Rattle.ledger.specs.Layout.{headerSize, rowSize, rowStart, shortestLedger, lastIdentifier}
+use Rattle.ledger.specs.Header.{rowsInUse, firstRow, nextIdentifier, sizeOfRows, capacityIn, capsIn, areCaps, capacityFor, headerRight}
+
+pub record RightHeader (largest : ℕ) (l : List ℕ) : Type 0 where
+  pub long : shortestLedger ≤ length l
+  pub offset : firstRow l ≡ headerSize
+  pub positive : 1 ≤ nextIdentifier l
+  pub next : nextIdentifier l ≤ lastIdentifier
+  pub size : sizeOfRows l ≡ rowSize
+  pub capacity : capacityIn l ≡ capacityFor largest (length l)
+  pub rows : rowsInUse l ≤ capacityIn l
+  pub caps : areCaps (capsIn l) ≡ true
+
+-- the header is right exactly where each clause holds
+pub right-header : (largest : ℕ) (l : List ℕ) → headerRight largest l ≡ true → RightHeader largest l
+unfolding headerRight
+right-header largest l e =
+    let c₁ = leb shortestLedger (length l) in
+    let c₂ = eqb (firstRow l) headerSize in
+    let c₃ = within 1 lastIdentifier (nextIdentifier l) in
+    let c₄ = eqb (sizeOfRows l) rowSize in
+    let c₅ = eqb (capacityIn l) (capacityFor largest (length l)) in
+    let c₆ = leb (rowsInUse l) (capacityIn l) in
+    let c₇ = areCaps (capsIn l) in
+    let r₂ = both-second c₁ (both c₂ (both c₃ (both c₄ (both c₅ (both c₆ c₇))))) e in
+    let r₃ = both-second c₂ (both c₃ (both c₄ (both c₅ (both c₆ c₇)))) r₂ in
+    let r₄ = both-second c₃ (both c₄ (both c₅ (both c₆ c₇))) r₃ in
+    let r₅ = both-second c₄ (both c₅ (both c₆ c₇)) r₄ in
+    let r₆ = both-second c₅ (both c₆ c₇) r₅ in
+    let range : within 1 lastIdentifier (nextIdentifier l) ≡ true = both-first c₃ (both c₄ (both c₅ (both c₆ c₇))) r₃ in
+    record {
+      long = leb-true _ _ (both-first c₁ (both c₂ (both c₃ (both c₄ (both c₅ (both c₆ c₇))))) e);
+      offset = eqb-true _ _ (both-first c₂ (both c₃ (both c₄ (both c₅ (both c₆ c₇)))) r₂);
+      positive = leb-true _ _ (both-first (leb 1 (nextIdentifier l)) (leb (nextIdentifier l) lastIdentifier) range);
+      next = leb-true _ _ (both-second (leb 1 (nextIdentifier l)) (leb (nextIdentifier l) lastIdentifier) range);
+      size = eqb-true _ _ (both-first c₄ (both c₅ (both c₆ c₇)) r₄);
+      capacity = eqb-true _ _ (both-first c₅ (both c₆ c₇) r₅);
+      rows = leb-true _ _ (both-first c₆ c₇ r₆);
+      caps = both-second c₆ c₇ r₆;
+    }
+
+pub header-right : (largest : ℕ) (l : List ℕ) → RightHeader largest l → headerRight largest l ≡ true
+unfolding headerRight
+header-right largest l h =
+    rw (
+      le-leb _ _ (h .long),
+      eq-eqb _ _ (h .offset),
+      le-leb _ _ (h .positive),
+      le-leb _ _ (h .next),
+      eq-eqb _ _ (h .size),
+      eq-eqb _ _ (h .capacity),
+      le-leb _ _ (h .rows),
+      h .caps,
+    )
+
+-- there is room for as many rows as the capacity says, and the capacity is no larger than the largest
+module _ (largest : ℕ) (l : List ℕ) (h : RightHeader largest l) where
+  pub rows-fit : rowStart (capacityIn l) ≤ length l
+  unfolding capacityFor
+  rows-fit = omega (arith, h .long, h .capacity)
+
+  pub capacity-most : capacityIn l ≤ largest
+  unfolding capacityFor
+  capacity-most = omega (arith, h .capacity)

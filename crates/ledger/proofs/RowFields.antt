@@ -1,0 +1,240 @@
+-- What a row says after an action has written it. Assumes nothing.
+use Prim.Native.Nat.{ℕ, zero, suc, _+_, _^_, _<_, _≤_}
+use mathlib.Core.Bool.{Bool, true, false, false≢true}
+use mathlib.Core.Path.{_≡_, refl, sym, ap, _∙_}
+use mathlib.Core.Logic.{_↔_}
+use mathlib.Core.List.{List, [], _∷_}
+use native.Mathlib.Omega.{arith}
+use lib.ListN.{length, take, drop, getD, replicate}
+use lib.Seq.{take-at, take-take}
+use lib.Dec.{eqb}
+use borrow.Author.Tests.{eqb-true, eq-eqb}
+use Rattle.octets.specs.Choice.{choose, both}
+use Rattle.octets.specs.Part.{part, splice}
+use Rattle.octets.specs.Same.{sameBytes}
+use Rattle.octets.specs.Number.{fromLe, toLe}
+use Rattle.octets.specs.Field.{field}
+use Rattle.octets.specs.Fields.{bytesOf}
+use Rattle.octets.proofs.ChoiceLaws.{both-first, both-second}
+use Rattle.octets.proofs.PartLaws.{part-at, part-before, part-after}
+use Rattle.octets.proofs.SameLaws.{same-refl, same-true}
+use Rattle.octets.proofs.NumberLaws.{length-toLe, fromLe-toLe}
+use Rattle.octets.proofs.FieldLaws.{field-fits, field-exact}
+use Rattle.octets.proofs.FieldRun.{field-placed}
+use Rattle.terms.specs.Terms.{termsSize}
+use Rattle.actions.specs.declared.Action.{Action}
+use Rattle.actions.specs.declared.Action.the-variants.{Newt, Modi, Corr, Term, Eror, Revi, Prto}
+use Rattle.actions.specs.Actions.{isFull, isNew, writesLine}
+use Rattle.ledger.specs.Layout.{u64, statusAt, lengthAt, utiAt, utiSize, identifierAt, termsAt, rowSize}
+use Rattle.ledger.specs.Rows.{statusOf, identifierOf, storedTerms, holdsUti, rowFields, newRow, withStatus, withIdentifier, withTerms, rowAfter}
+use Rattle.ledger.proofs.RowAfterLaws.{row-in-place, length-with-status, length-with-identifier}
+
+-- a byte is a part of one byte
+byte-part : (r : List ℕ) (i : ℕ) → getD r i 0 ≡ getD (part r i 1) 0 0
+byte-part [] zero = refl
+byte-part [] (suc i) = refl
+byte-part (x ∷ r) zero = refl
+byte-part (x ∷ r) (suc i) = byte-part r i
+
+byte-first : (r : List ℕ) → statusOf r ≡ getD (part r statusAt 1) 0 0
+unfolding statusOf
+byte-first r = byte-part r statusAt
+
+-- a field that is long enough opens with its text
+opens : (n : ℕ) (u : List ℕ) → length u ≤ n → take (length u) (field n u) ≡ u
+opens n u h = rw (field-fits n u h) (take-at u _ (length u) refl)
+
+-- ---- which UTI a row holds
+
+-- bytes from the length on, up to the identifier, say which UTI a row holds
+same-uti : (r r′ : List ℕ) → ((from n : ℕ) → lengthAt ≤ from → from + n ≤ identifierAt → part r′ from n ≡ part r from n) → (u : List ℕ) → length u ≤ utiSize → holdsUti u r′ ≡ holdsUti u r
+unfolding holdsUti
+same-uti r r′ same u h =
+    let byte : getD r′ lengthAt 0 ≡ getD r lengthAt 0 = byte-part r′ lengthAt ∙ ap (λ p. getD p 0 0) (same lengthAt 1 (omega arith) (omega arith)) ∙ sym (byte-part r lengthAt) in
+    rw (byte, same utiAt (length u) (omega arith) (omega arith))
+
+module _ (r : List ℕ) (size : length r ≡ rowSize) where
+  module _ (status : ℕ) where
+    status-fits : statusAt + length (status ∷ []) ≤ length r
+    status-fits = omega arith
+
+    -- a status leaves what is after it
+    status-rest : (from n : ℕ) → lengthAt ≤ from → part (withStatus status r) from n ≡ part r from n
+    unfolding withStatus
+    status-rest from n b = part-after r (status ∷ []) statusAt status-fits from n b
+
+    status-status : statusOf (withStatus status r) ≡ status
+    unfolding statusOf withStatus splice
+    status-status = refl
+
+  module _ (identifier : ℕ) where
+    identifier-fits : identifierAt + length (toLe u64 identifier) ≤ length r
+    identifier-fits = omega (arith, length-toLe u64 identifier)
+
+    identifier-front : (from n : ℕ) → from + n ≤ identifierAt → part (withIdentifier identifier r) from n ≡ part r from n
+    unfolding withIdentifier
+    identifier-front from n b = part-before r (toLe u64 identifier) identifierAt identifier-fits from n b
+
+    identifier-rest : (from n : ℕ) → termsAt ≤ from → part (withIdentifier identifier r) from n ≡ part r from n
+    unfolding withIdentifier
+    identifier-rest from n b = part-after r (toLe u64 identifier) identifierAt identifier-fits from n (omega (arith, length-toLe u64 identifier))
+
+    identifier-identifier : identifier < 256 ^ u64 → identifierOf (withIdentifier identifier r) ≡ identifier
+    unfolding identifierOf withIdentifier
+    identifier-identifier b = ap fromLe (rw (length-toLe u64 identifier) at (part-at r (toLe u64 identifier) identifierAt identifier-fits)) ∙ fromLe-toLe u64 identifier b
+
+  module _ (terms : List ℕ) (long : length terms ≡ termsSize) where
+    terms-fit : termsAt + length terms ≤ length r
+    terms-fit = omega arith
+
+    terms-front : (from n : ℕ) → from + n ≤ termsAt → part (withTerms terms r) from n ≡ part r from n
+    unfolding withTerms
+    terms-front from n b = part-before r terms termsAt terms-fit from n b
+
+    terms-terms : storedTerms (withTerms terms r) ≡ terms
+    unfolding storedTerms withTerms
+    terms-terms = rw (long) at (part-at r terms termsAt terms-fit)
+
+-- ---- the row of a new swap
+
+module _ (status : ℕ) (u : List ℕ) (identifier : ℕ) (terms : List ℕ) where
+  new-status : statusOf (newRow status u identifier terms) ≡ status
+  unfolding statusOf newRow rowFields bytesOf field
+  new-status = refl
+
+  new-identifier : identifier < 256 ^ u64 → identifierOf (newRow status u identifier terms) ≡ identifier
+  unfolding identifierOf newRow rowFields
+  new-identifier b =
+      ap fromLe (field-placed statusAt (rowFields status u identifier terms) rowSize 3 (row-in-place status u identifier terms) (omega arith) ∙ field-exact u64 (toLe u64 identifier) (length-toLe u64 identifier))
+      ∙ fromLe-toLe u64 identifier b
+
+  new-terms : length terms ≡ termsSize → storedTerms (newRow status u identifier terms) ≡ terms
+  unfolding storedTerms newRow rowFields
+  new-terms long = field-placed statusAt (rowFields status u identifier terms) rowSize 4 (row-in-place status u identifier terms) (omega arith) ∙ field-exact termsSize terms long
+
+  new-length : getD (newRow status u identifier terms) lengthAt 0 ≡ length u
+  unfolding newRow rowFields bytesOf field
+  new-length = refl
+
+  new-uti : length u ≤ utiSize → part (newRow status u identifier terms) utiAt (length u) ≡ u
+  unfolding newRow rowFields
+  new-uti h =
+      sym (take-take (length u) utiSize (drop utiAt (newRow status u identifier terms)) h)
+      ∙ ap (take (length u)) (field-placed statusAt (rowFields status u identifier terms) rowSize 2 (row-in-place status u identifier terms) (omega arith))
+      ∙ opens utiSize u h
+
+  -- it holds this UTI and no other
+  pub new-holds : length u ≤ utiSize → (v : List ℕ) → (holdsUti v (newRow status u identifier terms) ≡ true) ↔ (u ≡ v)
+  unfolding holdsUti
+  new-holds h v =
+      let r : List ℕ = newRow status u identifier terms in
+      let long : Bool = eqb (getD r lengthAt 0) (length v) in
+      let same : Bool = sameBytes (part r utiAt (length v)) v in
+      (
+        λ e.
+            let n : length u ≡ length v = sym new-length ∙ eqb-true _ _ (both-first long same e) in
+            sym (new-uti h) ∙ rw n (same-true _ _ (both-second long same e)),
+        λ e. rw (← e, new-length, eq-eqb (length u) (length u) refl, new-uti h) (same-refl u),
+      )
+
+-- ---- the row after an action
+
+module _ (a : Action) (status : ℕ) (u : List ℕ) (identifier : ℕ) (terms r : List ℕ) (long : length terms ≡ termsSize) (size : length r ≡ rowSize) where
+  size₁ : length (withStatus status r) ≡ rowSize
+  size₁ = length-with-status status r size
+
+  size₂ : length (withIdentifier identifier (withStatus status r)) ≡ rowSize
+  size₂ = length-with-identifier identifier (withStatus status r) size₁
+
+  -- the status is written by every action
+  pub after-status : statusOf (rowAfter a status u identifier terms r) ≡ status
+  after-status = by a
+    where
+      first : (x y : List ℕ) → part x statusAt 1 ≡ part y statusAt 1 → statusOf y ≡ status → statusOf x ≡ status
+      first x y e f = byte-first x ∙ ap (λ p. getD p 0 0) e ∙ sym (byte-first y) ∙ f
+
+      one : statusOf (withStatus status r) ≡ status
+      one = status-status r size status
+
+      two : statusOf (withIdentifier identifier (withStatus status r)) ≡ status
+      two = first _ _ (identifier-front (withStatus status r) size₁ identifier statusAt 1 (omega arith)) one
+
+      three : statusOf (withTerms terms (withIdentifier identifier (withStatus status r))) ≡ status
+      three = first _ _ (terms-front (withIdentifier identifier (withStatus status r)) size₂ terms long statusAt 1 (omega arith)) two
+
+      by : (a : Action) → statusOf (rowAfter a status u identifier terms r) ≡ status
+      by Newt = new-status status u identifier terms
+      by Modi = three
+      by Corr = three
+      by Term = two
+      by Eror = two
+      by Revi = three
+      by Prto = one
+
+  -- the identifier is written by every action that writes a line
+  pub after-identifier : identifier < 256 ^ u64 → identifierOf (rowAfter a status u identifier terms r) ≡ choose (writesLine a) identifier (identifierOf r)
+  unfolding identifierOf
+  after-identifier b = by a
+    where
+      two : fromLe (part (withIdentifier identifier (withStatus status r)) identifierAt u64) ≡ identifier
+      two = identifier-identifier (withStatus status r) size₁ identifier b
+
+      three : fromLe (part (withTerms terms (withIdentifier identifier (withStatus status r))) identifierAt u64) ≡ identifier
+      three = ap fromLe (terms-front (withIdentifier identifier (withStatus status r)) size₂ terms long identifierAt u64 (omega arith)) ∙ two
+
+      by : (a : Action) → fromLe (part (rowAfter a status u identifier terms r) identifierAt u64) ≡ choose (writesLine a) identifier (fromLe (part r identifierAt u64))
+      by Newt = new-identifier status u identifier terms b
+      by Modi = three
+      by Corr = three
+      by Term = two
+      by Eror = two
+      by Revi = three
+      by Prto = ap fromLe (status-rest r size status identifierAt u64 (omega arith))
+
+  -- the terms are written by every full action
+  pub after-terms : storedTerms (rowAfter a status u identifier terms r) ≡ choose (isFull a) terms (storedTerms r)
+  unfolding storedTerms
+  after-terms = by a
+    where
+      one : part (withStatus status r) termsAt termsSize ≡ part r termsAt termsSize
+      one = status-rest r size status termsAt termsSize (omega arith)
+
+      two : part (withIdentifier identifier (withStatus status r)) termsAt termsSize ≡ part r termsAt termsSize
+      two = identifier-rest (withStatus status r) size₁ identifier termsAt termsSize (omega arith) ∙ one
+
+      three : part (withTerms terms (withIdentifier identifier (withStatus status r))) termsAt termsSize ≡ terms
+      three = terms-terms (withIdentifier identifier (withStatus status r)) size₂ terms long
+
+      by : (a : Action) → part (rowAfter a status u identifier terms r) termsAt termsSize ≡ choose (isFull a) terms (part r termsAt termsSize)
+      by Newt = new-terms status u identifier terms long
+      by Modi = three
+      by Corr = three
+      by Term = two
+      by Eror = two
+      by Revi = three
+      by Prto = one
+
+  -- length, UTI and padding are written by NEWT alone
+  pub after-kept : isNew a ≡ false → (from n : ℕ) → lengthAt ≤ from → from + n ≤ identifierAt → part (rowAfter a status u identifier terms r) from n ≡ part r from n
+  after-kept e from n p q = by a e
+    where
+      one : part (withStatus status r) from n ≡ part r from n
+      one = status-rest r size status from n p
+
+      two : part (withIdentifier identifier (withStatus status r)) from n ≡ part r from n
+      two = identifier-front (withStatus status r) size₁ identifier from n q ∙ one
+
+      three : part (withTerms terms (withIdentifier identifier (withStatus status r))) from n ≡ part r from n
+      three = terms-front (withIdentifier identifier (withStatus status r)) size₂ terms long from n (omega arith) ∙ two
+
+      by : (a : Action) → isNew a ≡ false → part (rowAfter a status u identifier terms r) from n ≡ part r from n
+      by Newt f = absurd (false≢true (sym f))
+      by Modi f = three
+      by Corr f = three
+      by Term f = two
+      by Eror f = two
+      by Revi f = three
+      by Prto f = one
+
+  pub after-holds : isNew a ≡ false → (v : List ℕ) → length v ≤ utiSize → holdsUti v (rowAfter a status u identifier terms r) ≡ holdsUti v r
+  after-holds e v h = same-uti r (rowAfter a status u identifier terms r) (after-kept e) v h

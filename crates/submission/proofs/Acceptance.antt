@@ -1,0 +1,253 @@
+-- What the verdict 0 tells of ledger, tape buffer and message. Assumes nothing.
+use Prim.Native.Nat.{ℕ, suc, _+_, _*_, _<_, _≤_}
+use mathlib.Core.Bool.{Bool, true, false, not, false≢true}
+use mathlib.Core.Path.{_≡_, refl, sym, ap, _∙_, subst}
+use mathlib.Core.List.{List, [], _∷_}
+use native.Mathlib.Omega.{arith}
+use lib.ListN.{length}
+use lib.Dec.{eqb, leb, ltb, lit<, lit≤}
+use borrow.Author.Tests.{eqb-true, eqb-false, ne-eqb, leb-true, ltb-true, ltb-false}
+use Rattle.octets.specs.Choice.{choose, both}
+use Rattle.octets.specs.Search.{all}
+use Rattle.octets.proofs.ChoiceLaws.{both-first, both-second}
+use Rattle.values.specs.Limits.{utiLeast, utiMost}
+use Rattle.values.specs.Run.{within, inClass, isUti, runOf}
+use Rattle.actions.specs.declared.Action.{Action}
+use Rattle.actions.specs.declared.Action.the-variants.{Newt, Modi, Corr, Term, Eror, Revi, Prto}
+use Rattle.actions.specs.declared.Checked.{Checked}
+use Rattle.actions.specs.declared.Checked.the-variants.{Fault, Value}
+use Rattle.actions.specs.Actions.{isNew, writesLine}
+use Rattle.actions.specs.Statuses.{live, ported, unknown, noStep, nextStatus}
+use Rattle.message.specs.Values.{value}
+use Rattle.elements.specs.Codes.{uti}
+use Rattle.elements.specs.Forms.{formOf, hasForm}
+use Rattle.elements.specs.Conditions.{isMissing}
+use Rattle.rules.specs.declared.checks.Check.the-variants.{Needed, Formed}
+use Rattle.rules.specs.Findings.{Finding, passed, broken, brokenIf, firstBroken}
+use Rattle.rules.specs.Rules.{rulesFor, rulesOf, atFault}
+use Rattle.rules.proofs.JudgeLaws.{neededAt, formedAt}
+use Rattle.rules.proofs.FindingLaws.{numberAt, findingAt, unused, distinct, all-passed, lowest-passed}
+use Rattle.ledger.specs.Layout.{utiSize, rowStart, lineSize, lastIdentifier}
+use Rattle.ledger.specs.Header.{rowsInUse, nextIdentifier, capacityIn, headerRight}
+use Rattle.ledger.specs.Rows.{statusOf, placeIn, placeOf, isKnown, swapRow, swapStatus}
+use Rattle.ledger.proofs.RightHeader.{RightHeader, right-header, rows-fit, capacity-most}
+use Rattle.submission.specs.Opening.{Limits}
+use Rattle.submission.specs.Submission.{swapOf, actionIn, rowRight, hasWrongRow, swapRules, submissionRules, verdictOn, placeFor, accepted, refused, concluded, submitted}
+
+-- the places of the rules: 3 and 4, then those of the message alone, where the layout and the action come before the action's own, then 14 to 18
+abbrev pub headerPlace : ℕ
+headerPlace = 0
+
+abbrev pub tapePlace : ℕ
+tapePlace = 1
+
+abbrev pub actionPlace : ℕ
+actionPlace = 3
+
+abbrev pub messagePlace : ℕ → ℕ
+messagePlace k = 4 + k
+
+abbrev pub rowPlace : ℕ
+rowPlace = 11
+
+abbrev pub statusPlace : ℕ
+statusPlace = 12
+
+abbrev pub timePlace : ℕ
+timePlace = 13
+
+abbrev pub roomPlace : ℕ
+roomPlace = 14
+
+abbrev pub spentPlace : ℕ
+spentPlace = 15
+
+-- ---- tests
+
+-- a test whose rule is passed
+pub not-broken : (b : Bool) → brokenIf b ≡ passed → b ≡ false
+not-broken true e =
+    let z : _≡_ {A = ℕ} 0 1 = cc in
+    absurd (omega arith)
+not-broken false e = refl
+
+pub not-not : (b : Bool) → not b ≡ false → b ≡ true
+not-not true e = refl
+not-not false e = absurd (false≢true (sym e))
+
+pub both-false : (a b : Bool) → both a b ≡ false → a ≡ true → b ≡ false
+both-false true b e f = e
+both-false false b e f = absurd (false≢true f)
+
+-- ---- the rules
+
+module _ (limits : Limits) (l t m : List ℕ) where
+  -- no two rules have the same number, and none has 0
+  pub numbers-differ : (r : Checked) → distinct (submissionRules limits r l t m) ≡ true
+  unfolding submissionRules rulesFor rulesOf swapRules unused distinct
+  numbers-differ (Fault code) = refl
+  numbers-differ (Value a) = refl
+
+  -- a message that is accepted has an action, and passes every rule
+  pub record Accepting : Type 0 where
+    pub action : Action
+    pub reads : actionIn m ≡ Value action
+    pub passes : (i : ℕ) → i < length (submissionRules limits (Value action) l t m) → findingAt (submissionRules limits (Value action) l t m) i ≡ passed
+
+  pub accepting : verdictOn limits l t m .0 ≡ 0 → Accepting
+  unfolding verdictOn submissionRules rulesFor
+  accepting v = by (actionIn m) refl
+    where
+      by : (r : Checked) → actionIn m ≡ r → Accepting
+      by (Fault code) e =
+          let w : firstBroken (submissionRules limits (Fault code) l t m) .0 ≡ 0 = ap (λ r. firstBroken (submissionRules limits r l t m) .0) (sym e) ∙ v in
+          let p : broken code ≡ passed = all-passed (submissionRules limits (Fault code) l t m) (numbers-differ (Fault code)) w actionPlace (lit< tt) in
+          let z : _≡_ {A = ℕ} 0 1 = cc in
+          absurd (omega arith)
+      by (Value a) e =
+          let w : firstBroken (submissionRules limits (Value a) l t m) .0 ≡ 0 = ap (λ r. firstBroken (submissionRules limits r l t m) .0) (sym e) ∙ v in
+          record { action = a; reads = e; passes = all-passed (submissionRules limits (Value a) l t m) (numbers-differ (Value a)) w }
+
+-- ---- what the rules that an accepted message passes say
+
+-- NEWT alone is admitted for an unknown swap, and for no other
+old-unknown : (a : Action) → isNew a ≡ false → nextStatus a unknown ≡ noStep
+old-unknown Newt e = absurd (false≢true (sym e))
+old-unknown Modi e = refl
+old-unknown Corr e = refl
+old-unknown Term e = refl
+old-unknown Eror e = refl
+old-unknown Revi e = refl
+old-unknown Prto e = refl
+
+new-step : (b : Bool) → eqb (choose b live noStep) noStep ≡ false → b ≡ true
+new-step true e = refl
+new-step false e = absurd (false≢true (sym e))
+
+new-unknown : (a : Action) (s : ℕ) → isNew a ≡ true → eqb (nextStatus a s) noStep ≡ false → s ≡ unknown
+new-unknown Newt s e f = eqb-true s unknown (new-step (eqb s unknown) f)
+new-unknown Modi s e f = absurd (false≢true e)
+new-unknown Corr s e f = absurd (false≢true e)
+new-unknown Term s e f = absurd (false≢true e)
+new-unknown Eror s e f = absurd (false≢true e)
+new-unknown Revi s e f = absurd (false≢true e)
+new-unknown Prto s e f = absurd (false≢true e)
+
+-- a value of the form of a UTI
+uti-long : (v : List ℕ) → hasForm uti v ≡ true → length v ≤ utiSize
+unfolding hasForm formOf runOf
+uti-long v e =
+    let least : Bool = leb utiLeast (length v) in
+    let most : Bool = leb (length v) utiMost in
+    leb-true (length v) utiMost (both-first most _ (both-second least (both most _) e))
+
+pub record Fits (limits : Limits) (l t m : List ℕ) (a : Action) : Type 0 where
+  pub header : RightHeader (limits .largest) l
+  pub tape : lineSize ≤ length t
+  pub uti : length (swapOf m) ≤ utiSize
+  -- NEWT finds no row, any other action finds its swap's
+  pub free : isNew a ≡ true → isKnown l (swapOf m) ≡ false
+  pub known : isNew a ≡ false → isKnown l (swapOf m) ≡ true
+  pub right : isKnown l (swapOf m) ≡ true → rowRight (nextIdentifier l) (swapRow l (swapOf m)) ≡ true
+  pub step : eqb (nextStatus a (swapStatus l (swapOf m))) noStep ≡ false
+  -- the row lies within the capacity, and a line finds an identifier
+  pub place : placeFor a l m < capacityIn l
+  pub spare : writesLine a ≡ true → nextIdentifier l < lastIdentifier
+
+module _ (limits : Limits) (l t m : List ℕ) (a : Action) (passes : (i : ℕ) → i < length (submissionRules limits (Value a) l t m) → findingAt (submissionRules limits (Value a) l t m) i ≡ passed) where
+  header-test : headerRight (limits .largest) l ≡ true
+  unfolding submissionRules rulesFor rulesOf swapRules
+  header-test = not-not _ (not-broken _ (passes headerPlace (lit< tt)))
+
+  tape-test : ltb (length t) lineSize ≡ false
+  unfolding submissionRules rulesFor rulesOf swapRules
+  tape-test = not-broken _ (passes tapePlace (lit< tt))
+
+  row-test : hasWrongRow l (swapOf m) ≡ false
+  unfolding submissionRules rulesFor rulesOf swapRules
+  row-test = not-broken _ (passes rowPlace (lit< tt))
+
+  status-test : eqb (nextStatus a (swapStatus l (swapOf m))) noStep ≡ false
+  unfolding submissionRules rulesFor rulesOf swapRules
+  status-test = not-broken _ (passes statusPlace (lit< tt))
+
+  room-test : both (isNew a) (eqb (rowsInUse l) (capacityIn l)) ≡ false
+  unfolding submissionRules rulesFor rulesOf swapRules
+  room-test = not-broken _ (passes roomPlace (lit< tt))
+
+  spent-test : both (writesLine a) (eqb (nextIdentifier l) lastIdentifier) ≡ false
+  unfolding submissionRules rulesFor rulesOf swapRules
+  spent-test = not-broken _ (passes spentPlace (lit< tt))
+
+  there : isMissing uti m ≡ false
+  unfolding submissionRules rulesFor rulesOf swapRules
+  there = lowest-passed (atFault Needed a m) (passes (messagePlace neededAt) (lit< tt)) uti (lit≤ tt) (lit≤ tt)
+
+  formed : hasForm uti (swapOf m) ≡ true
+  unfolding submissionRules rulesFor rulesOf swapRules
+  formed =
+      let f : both (not (isMissing uti m)) (not (hasForm uti (swapOf m))) ≡ false = lowest-passed (atFault Formed a m) (passes (messagePlace formedAt) (lit< tt)) uti (lit≤ tt) (lit≤ tt) in
+      not-not _ (both-false (not (isMissing uti m)) (not (hasForm uti (swapOf m))) f (ap not there))
+
+  row-right : isKnown l (swapOf m) ≡ true → rowRight (nextIdentifier l) (swapRow l (swapOf m)) ≡ true
+  unfolding hasWrongRow
+  row-right k = not-not _ (both-false (isKnown l (swapOf m)) _ row-test k)
+
+  is-known : (b : Bool) → isKnown l (swapOf m) ≡ b → isNew a ≡ false → isKnown l (swapOf m) ≡ true
+  unfolding swapStatus
+  is-known true k e = k
+  is-known false k e =
+      let none : swapStatus l (swapOf m) ≡ unknown = rw k in
+      let step : nextStatus a (swapStatus l (swapOf m)) ≡ noStep = ap (nextStatus a) none ∙ old-unknown a e in
+      absurd (false≢true (sym status-test ∙ ap (λ s. eqb s noStep) step))
+
+  is-free : (b : Bool) → isKnown l (swapOf m) ≡ b → isNew a ≡ true → isKnown l (swapOf m) ≡ false
+  unfolding swapStatus rowRight
+  is-free false k e = k
+  is-free true k e =
+      let row : List ℕ = swapRow l (swapOf m) in
+      let some : swapStatus l (swapOf m) ≡ statusOf row = rw k in
+      let none : swapStatus l (swapOf m) ≡ unknown = new-unknown a _ e status-test in
+      let range : within live ported (statusOf row) ≡ true = both-first (within live ported (statusOf row)) _ (row-right k) in
+      let least : live ≤ statusOf row = leb-true _ _ (both-first (leb live (statusOf row)) (leb (statusOf row) ported) range) in
+      absurd (omega (arith, some, none))
+
+  place-fits : (b : Bool) → isNew a ≡ b → rowsInUse l ≤ capacityIn l → placeFor a l m < capacityIn l
+  unfolding placeFor isKnown
+  place-fits true e h =
+      let differ : eqb (rowsInUse l) (capacityIn l) ≡ false = both-false (isNew a) _ room-test e in
+      rw e (omega (arith, eqb-false (rowsInUse l) (capacityIn l) differ))
+  place-fits false e h = rw e (omega (arith, ltb-true (placeOf l (swapOf m)) (rowsInUse l) (is-known (isKnown l (swapOf m)) refl e)))
+
+  all-fit : Fits limits l t m a
+  all-fit =
+      let h : RightHeader (limits .largest) l = right-header (limits .largest) l header-test in
+      record {
+        header = h;
+        tape = ltb-false _ _ tape-test;
+        uti = uti-long (swapOf m) formed;
+        free = is-free (isKnown l (swapOf m)) refl;
+        known = is-known (isKnown l (swapOf m)) refl;
+        right = row-right;
+        step = status-test;
+        place = place-fits (isNew a) refl (h .rows);
+        spare = λ e. omega (arith, h .next, eqb-false (nextIdentifier l) lastIdentifier (both-false (writesLine a) _ spent-test e));
+      }
+
+-- ---- what a submission then is
+
+module _ (limits : Limits) (l t m : List ℕ) where
+  pub fits : (c : Accepting limits l t m) → Fits limits l t m (c .action)
+  fits c = all-fit limits l t m (c .action) (c .passes)
+
+  pub is-accepted : (c : Accepting limits l t m) → verdictOn limits l t m .0 ≡ 0 → submitted limits l t m ≡ accepted (c .action) l t m
+  unfolding submitted
+  is-accepted c v = rw (c .reads, v)
+
+  pub is-refused : (n : ℕ) → verdictOn limits l t m .0 ≡ suc n → submitted limits l t m ≡ refused (verdictOn limits l t m) l t
+  unfolding submitted
+  is-refused n v = by (actionIn m)
+    where
+      by : (r : Checked) → concluded (verdictOn limits l t m) r l t m ≡ refused (verdictOn limits l t m) l t
+      by (Fault code) = refl
+      by (Value a) = rw (ne-eqb (verdictOn limits l t m .0) 0 (λ e. omega (arith, e, v)))

@@ -1,0 +1,5 @@
+pub mod Acceptance
+pub mod Lookup
+pub mod Turn
+pub mod Told
+pub mod Pairs

@@ -1,0 +1,282 @@
+-- The ledger after an accepted message: its header's numbers, the row of the message's swap, and that of any other. Assumes nothing.
+use Prim.Native.Nat.{ℕ, zero, suc, _+_, _*_, _^_, _<_, _≤_}
+use mathlib.Core.Bool.{Bool, true, false, false≢true}
+use mathlib.Core.Path.{_≡_, refl, sym, ap, _∙_, subst}
+use mathlib.Core.Logic.{_↔_}
+use mathlib.Core.List.{List}
+use native.Mathlib.Numerals.{add-one}
+use native.Mathlib.Nat.{zero-add}
+use native.Mathlib.Omega.{arith}
+use lib.ListN.{length, getD}
+use lib.Dec.{eqb, ltb}
+use borrow.Author.Tests.{eqb-true, eqb-false, ltb-true, ltb-false, lt-ltb}
+use Rattle.octets.specs.Choice.{choose}
+use Rattle.octets.specs.Search.{firstFrom}
+use Rattle.octets.specs.Part.{part, splice}
+use Rattle.octets.specs.Same.{sameBytes}
+use Rattle.octets.proofs.ChoiceLaws.{both-first, both-second}
+use Rattle.octets.proofs.SearchLaws.{first-passes, first-same, first-stays, first-last}
+use Rattle.octets.proofs.SameLaws.{same-true}
+use Rattle.octets.proofs.PartLaws.{length-part}
+use Rattle.terms.specs.Terms.{termsSize}
+use Rattle.terms.proofs.TermLaws.{length-terms}
+use Rattle.actions.specs.declared.Action.{Action}
+use Rattle.actions.specs.declared.Action.the-variants.{Newt, Modi, Corr, Term, Eror, Revi, Prto}
+use Rattle.actions.specs.Actions.{isFull, isNew, writesLine}
+use Rattle.actions.specs.Statuses.{nextStatus}
+use Rattle.message.specs.Values.{value}
+use Rattle.elements.specs.Codes.{assetClass}
+use Rattle.ledger.specs.declared.header.Caps.{Caps}
+use Rattle.ledger.specs.Layout.{u32, u64, lengthAt, utiAt, utiSize, termsAt, headerSize, rowSize, rowStart, lastIdentifier}
+use Rattle.ledger.specs.Header.{rowsInUse, nextIdentifier, capacityIn, capsIn, capFor}
+use Rattle.ledger.specs.Rows.{rowAt, storedTerms, holdsUti, placeIn, placeOf, isKnown, swapRow, swapStatus, newRow, rowAfter, headerAfter}
+use Rattle.ledger.proofs.RightHeader.{rows-fit, capacity-most}
+use Rattle.ledger.proofs.RowAfterLaws.{length-row-after}
+use Rattle.ledger.proofs.RowFields.{new-holds, after-holds}
+use Rattle.ledger.proofs.ReadBack.{row-length, row-rows, row-next, row-caps, row-same, row-other, raised-caps, raised-row, raised-length, raised-rows, raised-next}
+use Rattle.submission.specs.Opening.{Limits}
+use Rattle.submission.specs.Submission.{swapOf, maskedTerms, termsFor, placeFor, rowFor, ledgerFor}
+use Rattle.submission.proofs.Acceptance.{Fits}
+
+-- ---- actions
+
+pub is-newt : (a : Action) → isNew a ≡ true → a ≡ Newt
+is-newt Newt e = refl
+is-newt Modi e = absurd (false≢true e)
+is-newt Corr e = absurd (false≢true e)
+is-newt Term e = absurd (false≢true e)
+is-newt Eror e = absurd (false≢true e)
+is-newt Revi e = absurd (false≢true e)
+is-newt Prto e = absurd (false≢true e)
+
+-- an action that is not full is for a swap that has a row
+pub old-unless-full : (a : Action) → isFull a ≡ false → isNew a ≡ false
+old-unless-full Newt e = absurd (false≢true (sym e))
+old-unless-full Modi e = refl
+old-unless-full Corr e = refl
+old-unless-full Term e = refl
+old-unless-full Eror e = refl
+old-unless-full Revi e = refl
+old-unless-full Prto e = refl
+
+-- ---- a row holds one UTI
+
+holds-once : (u v r : List ℕ) → holdsUti u r ≡ true → holdsUti v r ≡ true → u ≡ v
+unfolding holdsUti
+holds-once u v r p q =
+    let eu : eqb (getD r lengthAt 0) (length u) ≡ true = both-first _ (sameBytes (part r utiAt (length u)) u) p in
+    let ev : eqb (getD r lengthAt 0) (length v) ≡ true = both-first _ (sameBytes (part r utiAt (length v)) v) q in
+    let n : length u ≡ length v = sym (eqb-true _ _ eu) ∙ eqb-true _ _ ev in
+    let su : part r utiAt (length u) ≡ u = same-true _ _ (both-second (eqb (getD r lengthAt 0) (length u)) _ p) in
+    let sv : part r utiAt (length v) ≡ v = same-true _ _ (both-second (eqb (getD r lengthAt 0) (length v)) _ q) in
+    sym su ∙ rw n sv
+
+-- the row of a known swap holds its UTI
+known-holds : (l u : List ℕ) → placeOf l u < rowsInUse l → holdsUti u (swapRow l u) ≡ true
+unfolding placeIn
+known-holds l u h = first-passes (λ k. holdsUti u (rowAt l k)) 0 (rowsInUse l) (omega arith)
+
+-- ---- terms have one length
+
+length-masked : (caps : Caps) (m : List ℕ) → length (maskedTerms caps m) ≡ termsSize
+unfolding maskedTerms
+length-masked caps m = length-terms (capFor caps (value assetClass m)) m
+
+length-stored : (r : List ℕ) → length r ≡ rowSize → length (storedTerms r) ≡ termsSize
+unfolding storedTerms
+length-stored r size = length-part r termsAt termsSize (omega arith)
+
+-- ---- the ledger after
+
+module _ (limits : Limits) (l t m : List ℕ) (a : Action) (f : Fits limits l t m a) (small : limits .largest < 256 ^ u32) where
+  room : (j : ℕ) → j < capacityIn l → rowStart (suc j) ≤ length l
+  room j h = omega (arith, rows-fit (limits .largest) l (f .header))
+
+  pub length-row : (j : ℕ) → j < capacityIn l → length (rowAt l j) ≡ rowSize
+  unfolding rowAt
+  length-row j h = length-part l (rowStart j) rowSize (omega (arith, room j h))
+
+  pub known-place : isKnown l (swapOf m) ≡ true → placeOf l (swapOf m) < capacityIn l
+  unfolding isKnown
+  known-place e = omega (arith, ltb-true (placeOf l (swapOf m)) (rowsInUse l) e, f .header .rows)
+
+  pub length-shown : length (termsFor a l m) ≡ termsSize
+  unfolding termsFor
+  length-shown = by (isFull a) refl
+    where
+      by : (b : Bool) → isFull a ≡ b → length (choose b (maskedTerms (capsIn l) m) (storedTerms (swapRow l (swapOf m)))) ≡ termsSize
+      by true e = length-masked (capsIn l) m
+      by false e = length-stored (swapRow l (swapOf m)) (length-row (placeOf l (swapOf m)) (known-place (f .known (old-unless-full a e))))
+
+  pub length-after : length (rowFor a l m) ≡ rowSize
+  unfolding rowFor
+  length-after = length-row-after a _ (swapOf m) (nextIdentifier l) (termsFor a l m) (rowAt l (placeFor a l m)) length-shown (length-row (placeFor a l m) (f .place))
+
+  abbrev stored : List ℕ
+  stored = splice l (rowStart (placeFor a l m)) (rowFor a l m)
+
+  here : rowStart (suc (placeFor a l m)) ≤ length l
+  here = room (placeFor a l m) (f .place)
+
+  header-there : headerSize ≤ length (splice l (rowStart (placeFor a l m)) (rowFor a l m))
+  header-there = omega (arith, row-length l (rowFor a l m) (placeFor a l m) length-after here)
+
+  -- nothing grows or shrinks
+  pub ledger-length : length (ledgerFor a l m) ≡ length l
+  unfolding ledgerFor
+  ledger-length = raised-length a _ _ _ header-there ∙ row-length l (rowFor a l m) (placeFor a l m) length-after here
+
+  -- NEWT takes the next row
+  pub new-place : isNew a ≡ true → placeFor a l m ≡ rowsInUse l
+  unfolding placeFor
+  new-place e = rw e
+
+  pub old-place : isNew a ≡ false → placeFor a l m ≡ placeOf l (swapOf m)
+  unfolding placeFor
+  old-place e = rw e
+
+  pub rows-raised : rowsInUse (ledgerFor a l m) ≡ choose (isNew a) (rowsInUse l + 1) (rowsInUse l)
+  unfolding ledgerFor
+  rows-raised =
+      raised-rows a (rowsInUse l) (nextIdentifier l) stored header-there (λ e. omega (arith, f .place, new-place e, capacity-most (limits .largest) l (f .header)))
+      ∙ ap (choose (isNew a) (rowsInUse l + 1)) (row-rows l (rowFor a l m) (placeFor a l m) length-after here)
+
+  pub next-raised : nextIdentifier (ledgerFor a l m) ≡ choose (writesLine a) (nextIdentifier l + 1) (nextIdentifier l)
+  unfolding ledgerFor
+  next-raised =
+      raised-next a (rowsInUse l) (nextIdentifier l) stored header-there (omega (arith, f .header .next))
+      ∙ ap (choose (writesLine a) (nextIdentifier l + 1)) (row-next l (rowFor a l m) (placeFor a l m) length-after here)
+
+  pub caps-kept : capsIn (ledgerFor a l m) ≡ capsIn l
+  unfolding ledgerFor
+  caps-kept = raised-caps a (rowsInUse l) (nextIdentifier l) stored header-there ∙ row-caps l (rowFor a l m) (placeFor a l m) length-after here
+
+  pub row-written : rowAt (ledgerFor a l m) (placeFor a l m) ≡ rowFor a l m
+  unfolding ledgerFor
+  row-written = raised-row a (rowsInUse l) (nextIdentifier l) stored header-there (placeFor a l m) ∙ row-same l (rowFor a l m) (placeFor a l m) length-after here
+
+  pub row-kept : (j : ℕ) → (j ≡ placeFor a l m → ⊥) → rowAt (ledgerFor a l m) j ≡ rowAt l j
+  unfolding ledgerFor
+  row-kept j differ = raised-row a (rowsInUse l) (nextIdentifier l) stored header-there j ∙ row-other l (rowFor a l m) (placeFor a l m) length-after here j differ
+
+  -- ---- which UTIs the rows hold
+
+  -- a row that is not new holds the UTI that it held
+  old-holds : isNew a ≡ false → (v : List ℕ) → length v ≤ utiSize → (j : ℕ) → holdsUti v (rowAt (ledgerFor a l m) j) ≡ holdsUti v (rowAt l j)
+  unfolding rowFor
+  old-holds e v h j = by (eqb j (placeFor a l m)) refl
+    where
+      by : (b : Bool) → eqb j (placeFor a l m) ≡ b → holdsUti v (rowAt (ledgerFor a l m) j) ≡ holdsUti v (rowAt l j)
+      by true g =
+          let at : j ≡ placeFor a l m = eqb-true _ _ g in
+          rw (at) (ap (holdsUti v) row-written ∙ after-holds a _ (swapOf m) (nextIdentifier l) (termsFor a l m) (rowAt l (placeFor a l m)) length-shown (length-row (placeFor a l m) (f .place)) e v h)
+      by false g = ap (holdsUti v) (row-kept j (eqb-false _ _ g))
+
+  old-places : isNew a ≡ false → (v : List ℕ) → length v ≤ utiSize → placeOf (ledgerFor a l m) v ≡ placeOf l v
+  unfolding placeIn
+  old-places e v h =
+      ap (firstFrom (λ j. holdsUti v (rowAt (ledgerFor a l m) j)) 0) (rows-raised ∙ rw e)
+      ∙ first-same (λ j. holdsUti v (rowAt (ledgerFor a l m) j)) (λ j. holdsUti v (rowAt l j)) 0 (rowsInUse l) (λ j g. old-holds e v h j)
+
+  -- NEWT adds a row behind those in use: it holds the message's UTI and no other
+  new-row-holds : isNew a ≡ true → (v : List ℕ) → (holdsUti v (rowAt (ledgerFor a l m) (rowsInUse l)) ≡ true) ↔ (swapOf m ≡ v)
+  unfolding rowFor
+  new-row-holds e v =
+      let r : rowAt (ledgerFor a l m) (rowsInUse l) ≡ rowFor a l m = ap (rowAt (ledgerFor a l m)) (sym (new-place e)) ∙ row-written in
+      let is : rowFor a l m ≡ newRow (nextStatus a (swapStatus l (swapOf m))) (swapOf m) (nextIdentifier l) (termsFor a l m) = by a (is-newt a e) in
+      rw (r, is) (new-holds _ (swapOf m) (nextIdentifier l) (termsFor a l m) (f .uti) v)
+    where
+      by : (b : Action) → b ≡ Newt → rowAfter b (nextStatus a (swapStatus l (swapOf m))) (swapOf m) (nextIdentifier l) (termsFor a l m) (rowAt l (placeFor a l m)) ≡ newRow (nextStatus a (swapStatus l (swapOf m))) (swapOf m) (nextIdentifier l) (termsFor a l m)
+      by b g = rw g
+
+  -- the rows in use before hold what they held
+  new-holds-before : isNew a ≡ true → (v : List ℕ) (j : ℕ) → j < rowsInUse l → holdsUti v (rowAt (ledgerFor a l m) j) ≡ holdsUti v (rowAt l j)
+  new-holds-before e v j h = ap (holdsUti v) (row-kept j (λ g. omega (arith, g, h, new-place e)))
+
+  new-rows : isNew a ≡ true → rowsInUse (ledgerFor a l m) ≡ suc (rowsInUse l)
+  new-rows e = rows-raised ∙ rw (e, add-one)
+
+  first-before : isNew a ≡ true → (v : List ℕ) → firstFrom (λ j. holdsUti v (rowAt (ledgerFor a l m) j)) 0 (rowsInUse l) ≡ placeOf l v
+  unfolding placeIn
+  first-before e v = first-same (λ j. holdsUti v (rowAt (ledgerFor a l m) j)) (λ j. holdsUti v (rowAt l j)) 0 (rowsInUse l) (λ j h. new-holds-before e v j (omega arith))
+
+  -- a UTI that was found is found where it was
+  new-found : isNew a ≡ true → (v : List ℕ) → placeOf l v < rowsInUse l → placeOf (ledgerFor a l m) v ≡ placeOf l v
+  unfolding placeIn
+  new-found e v h =
+      let g : ℕ → Bool = λ j. holdsUti v (rowAt (ledgerFor a l m) j) in
+      let same : firstFrom g 0 (rowsInUse l) ≡ placeOf l v = first-before e v in
+      ap (firstFrom g 0) (new-rows e) ∙ first-stays g 0 (rowsInUse l) (omega arith) ∙ same
+
+  -- one that was not is asked of the new row
+  new-asked : isNew a ≡ true → (v : List ℕ) → rowsInUse l ≤ placeOf l v → placeOf (ledgerFor a l m) v ≡ choose (holdsUti v (rowAt (ledgerFor a l m) (rowsInUse l))) (rowsInUse l) (suc (rowsInUse l))
+  unfolding placeIn
+  new-asked e v h =
+      let g : ℕ → Bool = λ j. holdsUti v (rowAt (ledgerFor a l m) j) in
+      let same : firstFrom g 0 (rowsInUse l) ≡ placeOf l v = first-before e v in
+      ap (firstFrom g 0) (new-rows e) ∙ (rw zero-add at (first-last g 0 (rowsInUse l) (omega arith)))
+
+  -- ---- the message's swap
+
+  own-place : (b : Bool) → isNew a ≡ b → placeOf (ledgerFor a l m) (swapOf m) ≡ placeFor a l m
+  unfolding isKnown
+  own-place true e =
+      let none : rowsInUse l ≤ placeOf l (swapOf m) = ltb-false _ _ (f .free e) in
+      new-asked e (swapOf m) none ∙ rw (new-row-holds e (swapOf m) .1 refl) (sym (new-place e))
+  own-place false e = old-places e (swapOf m) (f .uti) ∙ sym (old-place e)
+
+  own-in-use : (b : Bool) → isNew a ≡ b → placeFor a l m < rowsInUse (ledgerFor a l m)
+  unfolding isKnown
+  own-in-use true e = omega (arith, new-place e, new-rows e)
+  own-in-use false e =
+      let same : rowsInUse (ledgerFor a l m) ≡ rowsInUse l = rows-raised ∙ rw e in
+      omega (arith, old-place e, ltb-true (placeOf l (swapOf m)) (rowsInUse l) (f .known e))
+
+  -- it is known, and its row is the one written
+  pub own-known : isKnown (ledgerFor a l m) (swapOf m) ≡ true
+  unfolding isKnown
+  own-known = rw (own-place (isNew a) refl) (lt-ltb _ _ (own-in-use (isNew a) refl))
+
+  pub own-row : swapRow (ledgerFor a l m) (swapOf m) ≡ rowFor a l m
+  own-row = ap (rowAt (ledgerFor a l m)) (own-place (isNew a) refl) ∙ row-written
+
+  -- ---- any other swap
+
+  module _ (v : List ℕ) (h : length v ≤ utiSize) (differ : swapOf m ≡ v → ⊥) where
+    apart : isNew a ≡ false → placeOf l v < rowsInUse l → placeOf l v ≡ placeFor a l m → ⊥
+    unfolding isKnown
+    apart e g p =
+        let own : holdsUti (swapOf m) (swapRow l (swapOf m)) ≡ true = known-holds l (swapOf m) (ltb-true _ _ (f .known e)) in
+        let at : placeOf l v ≡ placeOf l (swapOf m) = p ∙ old-place e in
+        differ (holds-once (swapOf m) v (swapRow l (swapOf m)) own (subst (λ j. holdsUti v (rowAt l j) ≡ true) at (known-holds l v g)))
+
+    other-holds : isNew a ≡ true → holdsUti v (rowAt (ledgerFor a l m) (rowsInUse l)) ≡ false
+    other-holds e = by (holdsUti v (rowAt (ledgerFor a l m) (rowsInUse l))) refl
+      where
+        by : (b : Bool) → holdsUti v (rowAt (ledgerFor a l m) (rowsInUse l)) ≡ b → holdsUti v (rowAt (ledgerFor a l m) (rowsInUse l)) ≡ false
+        by true g = absurd (differ (new-row-holds e v .0 g))
+        by false g = g
+
+    other-place : (b : Bool) → isNew a ≡ b → placeOf (ledgerFor a l m) v < rowsInUse (ledgerFor a l m) → (placeOf l v < rowsInUse l) × (placeOf (ledgerFor a l m) v ≡ placeOf l v) × (placeOf l v ≡ placeFor a l m → ⊥)
+    other-place false e g =
+        let same : rowsInUse (ledgerFor a l m) ≡ rowsInUse l = rows-raised ∙ rw e in
+        let place : placeOf (ledgerFor a l m) v ≡ placeOf l v = old-places e v h in
+        let in-use : placeOf l v < rowsInUse l = omega arith in
+        (in-use, place, apart e in-use)
+    other-place true e g = by (ltb (placeOf l v) (rowsInUse l)) refl
+      where
+        by : (b : Bool) → ltb (placeOf l v) (rowsInUse l) ≡ b → (placeOf l v < rowsInUse l) × (placeOf (ledgerFor a l m) v ≡ placeOf l v) × (placeOf l v ≡ placeFor a l m → ⊥)
+        by true p =
+            let in-use : placeOf l v < rowsInUse l = ltb-true _ _ p in
+            (in-use, new-found e v in-use, λ q. omega (arith, q, in-use, new-place e))
+        by false p =
+            let none : rowsInUse l ≤ placeOf l v = ltb-false _ _ p in
+            let past : placeOf (ledgerFor a l m) v ≡ suc (rowsInUse l) = new-asked e v none ∙ rw (other-holds e) in
+            absurd (omega (arith, past, g, new-rows e))
+
+    -- where it is known after, it was known before, and its row is what it was
+    pub other-kept : isKnown (ledgerFor a l m) v ≡ true → (isKnown l v ≡ true) × (swapRow (ledgerFor a l m) v ≡ swapRow l v)
+    unfolding isKnown
+    other-kept e =
+        let p = other-place (isNew a) refl (ltb-true _ _ e) in
+        (lt-ltb _ _ (p .0), ap (rowAt (ledgerFor a l m)) (p .1) ∙ row-kept (placeOf l v) (p .2))

@@ -1,0 +1,225 @@
+-- Two histories whose premises hold publish messages that tell the same tape. Assumes nothing.
+use Prim.Native.Nat.{ℕ, zero, suc, _<_}
+use mathlib.Core.Bool.{Bool, true, false}
+use mathlib.Core.Path.{_≡_, refl, sym, ap, ap₂, _∙_}
+use mathlib.Core.Logic.{_↔_}
+use mathlib.Core.List.{List, [], _∷_, _++_, map}
+use native.Mathlib.Omega.{arith}
+use lib.ListN.{length, getD}
+use lib.Dec.{eqb}
+use borrow.Author.Tests.{eqb-true}
+use Rattle.octets.specs.Choice.{choose, both}
+use Rattle.octets.specs.Same.{sameBytes}
+use Rattle.octets.proofs.ChoiceLaws.{both-first, both-second}
+use Rattle.octets.proofs.SameLaws.{same-true, same-refl}
+use Rattle.message.specs.Values.{value}
+use Rattle.actions.specs.declared.Checked.{Checked}
+use Rattle.actions.specs.declared.Checked.the-variants.{Fault, Value}
+use Rattle.actions.specs.Actions.{actionOf, isFull, writesLine}
+use Rattle.ledger.specs.declared.header.Caps.{Caps}
+use Rattle.ledger.specs.Line.{lineFields, line}
+use Rattle.submission.specs.Opening.{Limits}
+use Rattle.submission.specs.Submission.{swapOf, actionIn, maskedTerms}
+use Rattle.submission.specs.History.{Call, messageOf, answerTo, ledgerAfter, hasAction, ofKind, publishes, Judgement, judgements}
+use Rattle.submission.specs.Demand3.{messageAt, verdictAt, Accepted, termsAt, SameShown, Alike}
+use Rattle.submission.specs.Published.{published, lastLine, lastMasked, toldTerms, lineBy, toldLine, told}
+
+-- ---- choices
+
+-- two choices by equal tests
+pub choose-same {ℓ} : {A : Type ℓ} (b d : Bool) (x x′ y y′ : A) → b ≡ d → (b ≡ true → x ≡ x′) → y ≡ y′ → choose b x y ≡ choose d x′ y′
+choose-same true true x x′ y y′ e f g = f refl
+choose-same true false x x′ y y′ e f g = cc
+choose-same false true x x′ y y′ e f g = cc
+choose-same false false x x′ y y′ e f g = g
+
+choose-first {ℓ} : {A : Type ℓ} (b : Bool) (x y : A) → b ≡ true → choose b x y ≡ x
+choose-first true x y e = refl
+choose-first false x y e = cc
+
+-- two tests are equal if each passes where the other does
+pub same-test : (a b : Bool) → (a ≡ true → b ≡ true) → (b ≡ true → a ≡ true) → a ≡ b
+same-test true b f g = sym (f refl)
+same-test false true f g = g refl
+same-test false false f g = refl
+
+-- ---- two messages that show the same
+
+pub record Twins (caps : Caps) (m₁ m₂ : List ℕ) : Type 0 where
+  pub shown : SameShown m₁ m₂
+  pub terms : hasAction isFull m₁ ≡ true → maskedTerms caps m₁ ≡ maskedTerms caps m₂
+
+same-actions : (caps : Caps) (m₁ m₂ : List ℕ) → SameShown m₁ m₂ → actionIn m₁ ≡ actionIn m₂
+same-actions caps m₁ m₂ s = ap actionOf (s .0)
+
+-- the premises, with the masked terms of full messages alone: the rest of them follows
+pub record Near (caps : Caps) (js ks : List Judgement) : Type 0 where
+  pub lengths : length js ≡ length ks
+  pub verdicts : (i : ℕ) → i < length js → verdictAt js i ≡ verdictAt ks i
+  pub twins : (i : ℕ) → Accepted js i → Twins caps (messageAt js i) (messageAt ks i)
+  pub swaps : (i j : ℕ) → Accepted js i → Accepted js j → (swapOf (messageAt js i) ≡ swapOf (messageAt js j)) ↔ (swapOf (messageAt ks i) ≡ swapOf (messageAt ks j))
+
+pub near : (caps : Caps) (js ks : List Judgement) → Alike caps js ks → Near caps js ks
+unfolding termsAt
+near caps js ks a =
+    record {
+      lengths = a .lengths;
+      verdicts = a .verdicts;
+      twins = λ i z.
+          record {
+            shown = a .shown i z;
+            terms = λ f.
+                sym (choose-first (hasAction isFull (messageAt js i)) (maskedTerms caps (messageAt js i)) _ f)
+                ∙ a .terms i z
+                ∙ choose-first (hasAction isFull (messageAt ks i)) (maskedTerms caps (messageAt ks i)) _ (ap (ofKind isFull) (sym (same-actions caps _ _ (a .shown i z))) ∙ f);
+          };
+      swaps = a .swaps;
+    }
+
+near-rest : (caps : Caps) (j k : Judgement) (js ks : List Judgement) → Near caps (j ∷ js) (k ∷ ks) → Near caps js ks
+near-rest caps j k js ks n =
+    record {
+      lengths = omega (arith, n .lengths);
+      verdicts = λ i h. n .verdicts (suc i) (omega arith);
+      twins = λ i z. n .twins (suc i) (omega (arith, z .0), z .1);
+      swaps = λ i e z y. n .swaps (suc i) (suc e) (omega (arith, z .0), z .1) (omega (arith, y .0), y .1);
+    }
+
+-- ---- earlier messages that show the same, place by place
+
+Prior : Caps → List (List ℕ) → List (List ℕ) → Type 0
+Prior caps [] [] = Unit {0}
+Prior caps [] (f ∷ fs) = ⊥
+Prior caps (e ∷ es) [] = ⊥
+Prior caps (e ∷ es) (f ∷ fs) = Twins caps e f × Prior caps es fs
+
+-- which of them name a swap
+abbrev naming : List ℕ → List (List ℕ) → List Bool
+naming u es = map (λ (e : List ℕ). sameBytes (swapOf e) u) es
+
+record Same (caps : Caps) (u v : List ℕ) (es fs : List (List ℕ)) : Type 0 where
+  lines : lastLine u es ≡ lastLine v fs
+  terms : lastMasked caps u es ≡ lastMasked caps v fs
+  long : length es ≡ length fs
+
+same-earlier : (caps : Caps) (u v : List ℕ) (es fs : List (List ℕ)) → Prior caps es fs → naming u es ≡ naming v fs → Same caps u v es fs
+unfolding Prior lastLine lastMasked
+same-earlier caps u v [] [] p n = record { lines = refl; terms = refl; long = refl }
+same-earlier caps u v [] (f ∷ fs) p n = absurd p
+same-earlier caps u v (e ∷ es) [] p n = absurd p
+same-earlier caps u v (e ∷ es) (f ∷ fs) p n =
+    let b : sameBytes (swapOf e) u ≡ sameBytes (swapOf f) v = cc in
+    let rest : naming u es ≡ naming v fs = cc in
+    let i : Same caps u v es fs = same-earlier caps u v es fs (p .1) rest in
+    let g : hasAction isFull e ≡ hasAction isFull f = ap (ofKind isFull) (same-actions caps e f (p .0 .shown)) in
+    record {
+      lines = rw (b, i .lines, i .long);
+      terms = choose-same (both (sameBytes (swapOf e) u) (hasAction isFull e)) (both (sameBytes (swapOf f) v) (hasAction isFull f)) _ _ _ _ (rw (b, g))
+          (λ z. p .0 .terms (both-second (sameBytes (swapOf e) u) (hasAction isFull e) z)) (i .terms);
+      long = ap suc (i .long);
+    }
+
+-- ---- one line
+
+line-shown : (r : Checked) (i p : ℕ) (m n terms : List ℕ) → SameShown m n → lineBy r i p m terms ≡ lineBy r i p n terms
+unfolding line lineFields
+line-shown (Fault code) i p m n terms s = refl
+line-shown (Value a) i p m n terms s = rw (s .0, s .1, s .2)
+
+same-terms : (caps : Caps) (m n : List ℕ) (es fs : List (List ℕ)) → Twins caps m n → Same caps (swapOf m) (swapOf n) es fs → toldTerms caps es m ≡ toldTerms caps fs n
+unfolding toldTerms
+same-terms caps m n es fs t i =
+    choose-same (hasAction isFull m) (hasAction isFull n) _ _ _ _ (ap (ofKind isFull) (same-actions caps m n (t .shown))) (t .terms) (i .terms)
+
+same-line : (caps : Caps) (m n : List ℕ) (es fs : List (List ℕ)) → Twins caps m n → Same caps (swapOf m) (swapOf n) es fs → toldLine caps es m ≡ toldLine caps fs n
+unfolding toldLine
+same-line caps m n es fs t i =
+    line-shown (actionIn m) _ _ m n _ (t .shown)
+    ∙ rw (same-actions caps m n (t .shown), same-terms caps m n es fs t i, i .lines, i .long)
+
+-- ---- the histories from here on, with what was published before
+
+abbrev Named : List Judgement → List Judgement → List (List ℕ) → List (List ℕ) → Type 0
+Named js ks es fs = (i : ℕ) → Accepted js i → naming (swapOf (messageAt js i)) es ≡ naming (swapOf (messageAt ks i)) fs
+
+name-one : (u v m n : List ℕ) → (m ≡ u) ↔ (n ≡ v) → sameBytes m u ≡ sameBytes n v
+name-one u v m n e =
+    same-test _ _ (λ b. rw (e .0 (same-true m u b)) (same-refl v)) (λ b. rw (e .1 (same-true n v b)) (same-refl u))
+
+-- whether a line is written goes by verdict and action
+same-publishes : (v w : ℕ) (m n : List ℕ) → v ≡ w → (v ≡ 0 → SameShown m n) → both (eqb v 0) (hasAction writesLine m) ≡ both (eqb w 0) (hasAction writesLine n)
+same-publishes v w m n e s = rw (← e) (by (eqb v 0) refl)
+  where
+    by : (b : Bool) → eqb v 0 ≡ b → both b (hasAction writesLine m) ≡ both b (hasAction writesLine n)
+    by true g = ap (λ (x : List ℕ). ofKind writesLine (actionOf x)) (s (eqb-true v 0 g) .0)
+    by false g = refl
+
+module _ (caps : Caps) (limits : Limits) (c₁ c₂ : Call) (h₁ h₂ : List Call) (l₁ l₂ : List ℕ) (es fs : List (List ℕ)) (p : Prior caps es fs)
+    (q : Named (judgements limits l₁ (c₁ ∷ h₁)) (judgements limits l₂ (c₂ ∷ h₂)) es fs) (n : Near caps (judgements limits l₁ (c₁ ∷ h₁)) (judgements limits l₂ (c₂ ∷ h₂))) where
+  same-verdict : answerTo limits l₁ c₁ .verdict ≡ answerTo limits l₂ c₂ .verdict
+  unfolding judgements
+  same-verdict = n .verdicts 0 (omega arith)
+
+  twins : answerTo limits l₁ c₁ .verdict ≡ 0 → Twins caps (messageOf c₁) (messageOf c₂)
+  unfolding judgements
+  twins v = n .twins 0 (omega arith, v)
+
+  publish-alike : publishes limits l₁ c₁ ≡ publishes limits l₂ c₂
+  unfolding publishes
+  publish-alike = same-publishes _ _ (messageOf c₁) (messageOf c₂) same-verdict (λ v. twins v .shown)
+
+  accepted-first : publishes limits l₁ c₁ ≡ true → answerTo limits l₁ c₁ .verdict ≡ 0
+  unfolding publishes
+  accepted-first e = eqb-true _ 0 (both-first (eqb (answerTo limits l₁ c₁ .verdict) 0) (hasAction writesLine (messageOf c₁)) e)
+
+  named-rest : Named (judgements limits (ledgerAfter limits l₁ c₁) h₁) (judgements limits (ledgerAfter limits l₂ c₂) h₂) es fs
+  unfolding judgements
+  named-rest i z = q (suc i) (omega (arith, z .0), z .1)
+
+  named-own : answerTo limits l₁ c₁ .verdict ≡ 0 → naming (swapOf (messageOf c₁)) es ≡ naming (swapOf (messageOf c₂)) fs
+  unfolding judgements
+  named-own v = q 0 (omega arith, v)
+
+  named-more : answerTo limits l₁ c₁ .verdict ≡ 0 → Named (judgements limits (ledgerAfter limits l₁ c₁) h₁) (judgements limits (ledgerAfter limits l₂ c₂) h₂) (messageOf c₁ ∷ es) (messageOf c₂ ∷ fs)
+  unfolding judgements
+  named-more v i z =
+      ap₂ {C = List Bool} (λ (c : Bool) (bs : List Bool). c ∷ bs) (name-one _ _ (swapOf (messageOf c₁)) (swapOf (messageOf c₂)) (n .swaps 0 (suc i) (omega arith, v) (omega (arith, z .0), z .1))) (named-rest i z)
+
+  near-after : Near caps (judgements limits (ledgerAfter limits l₁ c₁) h₁) (judgements limits (ledgerAfter limits l₂ c₂) h₂)
+  unfolding judgements
+  near-after = near-rest caps _ _ _ _ n
+
+  one-turn :
+      ((es′ fs′ : List (List ℕ)) → Prior caps es′ fs′ → Named (judgements limits (ledgerAfter limits l₁ c₁) h₁) (judgements limits (ledgerAfter limits l₂ c₂) h₂) es′ fs′
+        → told caps es′ (published limits (ledgerAfter limits l₁ c₁) h₁) ≡ told caps fs′ (published limits (ledgerAfter limits l₂ c₂) h₂))
+      → (b : Bool) → publishes limits l₁ c₁ ≡ b → told caps es (published limits l₁ (c₁ ∷ h₁)) ≡ told caps fs (published limits l₂ (c₂ ∷ h₂))
+  unfolding published told Prior
+  one-turn rest true e =
+      let v : answerTo limits l₁ c₁ .verdict ≡ 0 = accepted-first e in
+      let e₂ : publishes limits l₂ c₂ ≡ true = sym publish-alike ∙ e in
+      let t : Twins caps (messageOf c₁) (messageOf c₂) = twins v in
+      let own : naming (swapOf (messageOf c₁)) es ≡ naming (swapOf (messageOf c₂)) fs = named-own v in
+      rw (e, e₂)
+      (ap₂ {C = List ℕ} (λ (a b : List ℕ). a ++ b) (same-line caps (messageOf c₁) (messageOf c₂) es fs t (same-earlier caps (swapOf (messageOf c₁)) (swapOf (messageOf c₂)) es fs p own))
+      (rest (messageOf c₁ ∷ es) (messageOf c₂ ∷ fs) (t, p) (named-more v)))
+  one-turn rest false e =
+      let e₂ : publishes limits l₂ c₂ ≡ false = sym publish-alike ∙ e in
+      rw (e, e₂) (rest es fs p named-rest)
+
+both-told : (caps : Caps) (limits : Limits) (h₁ h₂ : List Call) (l₁ l₂ : List ℕ) (es fs : List (List ℕ)) → Prior caps es fs
+    → Named (judgements limits l₁ h₁) (judgements limits l₂ h₂) es fs → Near caps (judgements limits l₁ h₁) (judgements limits l₂ h₂)
+    → told caps es (published limits l₁ h₁) ≡ told caps fs (published limits l₂ h₂)
+unfolding judgements published told
+both-told caps limits [] [] l₁ l₂ es fs p q n = refl
+both-told caps limits [] (c₂ ∷ h₂) l₁ l₂ es fs p q n = absurd (omega (arith, n .lengths))
+both-told caps limits (c₁ ∷ h₁) [] l₁ l₂ es fs p q n = absurd (omega (arith, n .lengths))
+both-told caps limits (c₁ ∷ h₁) (c₂ ∷ h₂) l₁ l₂ es fs p q n =
+    one-turn caps limits c₁ c₂ h₁ h₂ l₁ l₂ es fs p q n
+    (λ es′ fs′ p′ q′. both-told caps limits h₁ h₂ (ledgerAfter limits l₁ c₁) (ledgerAfter limits l₂ c₂) es′ fs′ p′ q′ (near-after caps limits c₁ c₂ h₁ h₂ l₁ l₂ es fs p q n))
+    (publishes limits l₁ c₁) refl
+
+-- two histories whose premises hold tell the same
+pub tell-same : (caps : Caps) (limits : Limits) (h₁ h₂ : List Call) (l₁ l₂ : List ℕ) → Alike caps (judgements limits l₁ h₁) (judgements limits l₂ h₂)
+    → told caps [] (published limits l₁ h₁) ≡ told caps [] (published limits l₂ h₂)
+unfolding Prior
+tell-same caps limits h₁ h₂ l₁ l₂ a = both-told caps limits h₁ h₂ l₁ l₂ [] [] tt (λ i z. refl) (near caps _ _ a)

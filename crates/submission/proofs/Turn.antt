@@ -1,0 +1,91 @@
+-- One call of a history: what it adds to the tape and leaves in the ledger. Assumes nothing.
+use Prim.Native.Nat.{ℕ, zero, suc, _+_, _<_, _≤_}
+use mathlib.Core.Bool.{Bool, true, false, false≢true}
+use mathlib.Core.Path.{_≡_, refl, sym, ap, _∙_, subst}
+use mathlib.Core.List.{List, [], _∷_, _++_}
+use native.Mathlib.Omega.{arith}
+use lib.ListN.{length, take}
+use lib.Dec.{eqb}
+use borrow.Author.Tests.{eq-eqb, ne-eqb}
+use Rattle.octets.specs.Choice.{choose, both}
+use Rattle.octets.specs.Part.{part, splice}
+use Rattle.octets.proofs.PartLaws.{part-at}
+use Rattle.actions.specs.declared.Action.{Action}
+use Rattle.actions.specs.declared.Checked.the-variants.{Fault, Value}
+use Rattle.actions.specs.Actions.{writesLine}
+use Rattle.ledger.specs.Layout.{lineSize}
+use Rattle.ledger.specs.Header.{nextIdentifier}
+use Rattle.ledger.proofs.LineLaws.{length-line}
+use Rattle.submission.specs.Opening.{Limits}
+use Rattle.submission.specs.Submission.{Submitted, verdictOn, swapOf, actionIn, lineFor, ledgerFor, accepted, refused, submitted}
+use Rattle.submission.specs.History.{ofKind, hasAction, publishes, lineOf, submit}
+use Rattle.submission.proofs.Acceptance.{Accepting, accepting, Fits, fits, is-accepted, is-refused}
+
+-- the answer's verdict is the first rule broken's
+module _ (limits : Limits) (l t m : List ℕ) where
+  pub record Accepts : Type 0 where
+    pub action : Action
+    pub reads : actionIn m ≡ Value action
+    pub fitting : Fits limits l t m action
+    pub answer : submitted limits l t m ≡ accepted action l t m
+
+  pub record Refuses (n : ℕ) : Type 0 where
+    pub verdict : verdictOn limits l t m .0 ≡ suc n
+    pub answer : submitted limits l t m ≡ refused (verdictOn limits l t m) l t
+
+  same-verdict : (n : ℕ) → verdictOn limits l t m .0 ≡ n → submitted limits l t m .verdict ≡ verdictOn limits l t m .0
+  same-verdict zero e = let c : Accepting limits l t m = accepting limits l t m e in ap (λ s. s .verdict) (is-accepted limits l t m c e) ∙ sym e
+  same-verdict (suc n) e = ap (λ s. s .verdict) (is-refused limits l t m n e)
+
+  pub verdict-is : submitted limits l t m .verdict ≡ verdictOn limits l t m .0
+  verdict-is = same-verdict (verdictOn limits l t m .0) refl
+
+  pub accepts : submitted limits l t m .verdict ≡ 0 → Accepts
+  accepts v =
+      let e : verdictOn limits l t m .0 ≡ 0 = sym verdict-is ∙ v in
+      let c : Accepting limits l t m = accepting limits l t m e in
+      record { action = c .action; reads = c .reads; fitting = fits limits l t m c; answer = is-accepted limits l t m c e }
+
+  pub refuses : (n : ℕ) → submitted limits l t m .verdict ≡ suc n → Refuses n
+  refuses n v =
+      let e : verdictOn limits l t m .0 ≡ suc n = sym verdict-is ∙ v in
+      record { verdict = e; answer = is-refused limits l t m n e }
+
+  -- ---- a refusal
+
+  module _ (n : ℕ) (v : submitted limits l t m .verdict ≡ suc n) where
+    pub refused-ledger : submitted limits l t m .ledger ≡ l
+    refused-ledger = ap (λ s. s .ledger) (refuses n v .answer)
+
+    pub refused-publishes : publishes limits l (submit m t) ≡ false
+    unfolding publishes
+    refused-publishes = rw (ne-eqb (submitted limits l t m .verdict) 0 (λ e. omega (arith, e, v)))
+
+    pub refused-line : lineOf limits l (submit m t) ≡ []
+    unfolding lineOf
+    refused-line = rw refused-publishes
+
+  -- ---- an acceptance
+
+  module _ (c : Accepts) where
+    pub accepted-ledger : submitted limits l t m .ledger ≡ ledgerFor (c .action) l m
+    accepted-ledger = ap (λ s. s .ledger) (c .answer)
+
+    pub accepted-publishes : publishes limits l (submit m t) ≡ writesLine (c .action)
+    unfolding publishes
+    accepted-publishes = rw (ap (λ s. s .verdict) (c .answer), c .reads)
+
+    first-bytes : take lineSize (splice t 0 (lineFor (c .action) l m)) ≡ lineFor (c .action) l m
+    unfolding lineFor
+    first-bytes = by _ (length-line (c .action) (nextIdentifier l) _ m _) (c .fitting .tape)
+      where
+        by : (line : List ℕ) → length line ≡ lineSize → lineSize ≤ length t → take lineSize (splice t 0 line) ≡ line
+        by line size h = rw size at (part-at t line 0 (omega arith))
+
+    pub accepted-line : lineOf limits l (submit m t) ≡ choose (writesLine (c .action)) (lineFor (c .action) l m) []
+    unfolding lineOf
+    accepted-line = rw (accepted-publishes, ap (λ s. s .tape) (c .answer)) (by (writesLine (c .action)))
+      where
+        by : (b : Bool) → choose b (take lineSize (choose b (splice t 0 (lineFor (c .action) l m)) t)) [] ≡ choose b (lineFor (c .action) l m) []
+        by true = first-bytes
+        by false = refl

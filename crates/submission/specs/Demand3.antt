@@ -1,0 +1,74 @@
+-- Demand 3: one claim over two whole histories. The premises speak of messages, verdict numbers and caps alone.
+use Prim.Native.Nat.{ℕ, _^_, _<_}
+use mathlib.Core.Path.{_≡_}
+use mathlib.Core.Logic.{_↔_}
+use mathlib.Core.Bool.{Bool, not}
+use mathlib.Core.List.{List, [], _∷_}
+use lib.ListN.{length, take, getD}
+use lib.Dec.{eqb}
+use Rattle.octets.specs.Choice.{choose, both}
+use Rattle.octets.specs.Same.{sameBytes}
+use Rattle.message.specs.Values.{value}
+use Rattle.actions.specs.Actions.{actionCode, isFull, writesLine}
+use Rattle.elements.specs.Codes.{eventType, eventTime}
+use Rattle.ledger.specs.declared.header.Caps.{Caps}
+use Rattle.ledger.specs.Layout.{u32}
+use Rattle.submission.specs.Opening.{Limits, opened}
+use Rattle.submission.specs.Submission.{swapOf, maskedTerms}
+use Rattle.submission.specs.History.{Call, tape, Judgement, judgements, hasAction}
+
+-- the message and the verdict at a place of a list
+abbrev pub nowhere : Judgement
+nowhere = record { message = []; verdict = 0 }
+
+abbrev pub messageAt : List Judgement → ℕ → List ℕ
+messageAt js i = getD js i nowhere .message
+
+abbrev pub verdictAt : List Judgement → ℕ → ℕ
+verdictAt js i = getD js i nowhere .verdict
+
+abbrev pub Accepted : List Judgement → ℕ → Type 0
+Accepted js i = (i < length js) × (verdictAt js i ≡ 0)
+
+-- the masked terms of the last accepted full message of the swap u in a list, or `terms` where it has none
+unfoldable pub lastTerms : Caps → List ℕ → List Judgement → List ℕ → List ℕ
+lastTerms caps u [] terms = terms
+lastTerms caps u (j ∷ js) terms =
+    lastTerms caps u js
+    (choose (both (eqb (j .verdict) 0) (both (hasAction isFull (j .message)) (sameBytes (swapOf (j .message)) u))) (maskedTerms caps (j .message)) terms)
+
+-- a full message's own; TERM and EROR have those of their swap's last accepted full message earlier in the list, others none
+unfoldable pub termsAt : Caps → List Judgement → ℕ → List ℕ
+termsAt caps js i =
+    let m : List ℕ = messageAt js i in
+    choose (hasAction isFull m) (maskedTerms caps m)
+    (choose (hasAction writesLine m) (lastTerms caps (swapOf m) (take i js) []) [])
+
+-- ---- the premises
+
+-- two accepted messages agree in action, event (or its absence) and event time
+abbrev pub SameShown : List ℕ → List ℕ → Type 0
+SameShown m₁ m₂ = (value actionCode m₁ ≡ value actionCode m₂) × (value eventType m₁ ≡ value eventType m₂) × (value eventTime m₁ ≡ value eventTime m₂)
+
+pub record Alike (caps : Caps) (js ks : List Judgement) : Type 0 where
+  pub lengths : length js ≡ length ks
+  pub verdicts : (i : ℕ) → i < length js → verdictAt js i ≡ verdictAt ks i
+  pub shown : (i : ℕ) → Accepted js i → SameShown (messageAt js i) (messageAt ks i)
+  pub terms : (i : ℕ) → Accepted js i → termsAt caps js i ≡ termsAt caps ks i
+  pub swaps : (i j : ℕ) → Accepted js i → Accepted js j → (swapOf (messageAt js i) ≡ swapOf (messageAt js j)) ↔ (swapOf (messageAt ks i) ≡ swapOf (messageAt ks j))
+
+-- ---- the claim
+
+-- the ledger that opening leaves
+abbrev pub start : Limits → Caps → List ℕ → List ℕ
+start limits caps l = opened limits caps l .ledger
+
+-- two ledgers, of any length, that opening answered with 0, and two lists of calls whose premises hold: the tapes are equal, byte for byte
+abbrev pub Same-tapes : Type 0
+Same-tapes =
+    (limits : Limits) (caps : Caps) (l₁ l₂ : List ℕ) (h₁ h₂ : List Call)
+    → limits .largest < 256 ^ u32
+    → opened limits caps l₁ .verdict ≡ 0
+    → opened limits caps l₂ .verdict ≡ 0
+    → Alike caps (judgements limits (start limits caps l₁) h₁) (judgements limits (start limits caps l₂) h₂)
+    → tape limits (start limits caps l₁) h₁ ≡ tape limits (start limits caps l₂) h₂

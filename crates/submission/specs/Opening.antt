@@ -1,0 +1,40 @@
+-- Document 01, 'The ledger' and 'Verdict numbers': opening a ledger.
+use Prim.Native.Nat.{ℕ}
+use mathlib.Core.Bool.{not}
+use mathlib.Core.List.{List, [], _∷_}
+use lib.ListN.{length}
+use lib.Dec.{eqb, ltb}
+use Rattle.octets.specs.Choice.{choose}
+use Rattle.octets.specs.Part.{splice}
+use Rattle.rules.specs.Findings.{Finding, brokenIf, firstBroken}
+use Rattle.ledger.specs.declared.header.Caps.{Caps}
+use Rattle.ledger.specs.Layout.{shortestLedger}
+use Rattle.ledger.specs.Header.{areCaps, capacityFor, newHeader}
+use Rattle.submission.specs.Verdicts.{ledgerShort, capWrong}
+
+-- the limits of document 01: the longest message, 2,048 bytes, and the largest capacity, 100,000 rows; a capacity is a u32
+pub record Limits : Type 0 where
+  pub longest : ℕ
+  pub largest : ℕ
+
+-- what opening answers and leaves
+pub record Opened : Type 0 where
+  pub verdict : ℕ
+  pub ledger : List ℕ
+
+unfoldable pub openingRules : Caps → List ℕ → List (ℕ × Finding)
+openingRules caps l =
+    (ledgerShort, brokenIf (ltb (length l) shortestLedger))
+    ∷ (capWrong, brokenIf (not (areCaps caps)))
+    ∷ []
+
+unfoldable pub openingVerdict : Caps → List ℕ → ℕ
+openingVerdict caps l = firstBroken (openingRules caps l) .0
+
+-- opening writes the header and no other byte; a refusal writes nothing
+unfoldable pub opened : Limits → Caps → List ℕ → Opened
+opened limits caps l =
+    record {
+      verdict = openingVerdict caps l;
+      ledger = choose (eqb (openingVerdict caps l) 0) (splice l 0 (newHeader caps (capacityFor (limits .largest) (length l)))) l;
+    }

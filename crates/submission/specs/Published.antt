@@ -1,0 +1,59 @@
+-- The tape as the published messages alone tell it: those that were accepted and wrote a line, and the caps.
+use Prim.Native.Nat.{ℕ, suc, _^_, _<_}
+use mathlib.Core.Path.{_≡_}
+use mathlib.Core.List.{List, [], _∷_, _++_}
+use lib.ListN.{length}
+use Rattle.octets.specs.Choice.{choose, both}
+use Rattle.octets.specs.Same.{sameBytes}
+use Rattle.actions.specs.declared.Checked.{Checked}
+use Rattle.actions.specs.declared.Checked.the-variants.{Fault, Value}
+use Rattle.actions.specs.Actions.{isFull}
+use Rattle.ledger.specs.declared.header.Caps.{Caps}
+use Rattle.ledger.specs.Layout.{u32}
+use Rattle.ledger.specs.Line.{line}
+use Rattle.submission.specs.Opening.{Limits, opened}
+use Rattle.submission.specs.Submission.{swapOf, actionIn, maskedTerms}
+use Rattle.submission.specs.History.{Call, messageOf, ledgerAfter, hasAction, publishes, tape}
+use Rattle.submission.specs.Demand3.{start}
+
+-- the messages of a history that wrote a line
+unfoldable pub published : Limits → List ℕ → List Call → List (List ℕ)
+published limits l [] = []
+published limits l (c ∷ cs) =
+    choose (publishes limits l c) (messageOf c ∷ published limits (ledgerAfter limits l c) cs) (published limits (ledgerAfter limits l c) cs)
+
+-- ---- `earlier` are published messages, the latest first
+
+-- the identifier of the swap's last line, 0 where it has none: the first line took 1, the second 2
+unfoldable pub lastLine : List ℕ → List (List ℕ) → ℕ
+lastLine u [] = 0
+lastLine u (e ∷ earlier) = choose (sameBytes (swapOf e) u) (suc (length earlier)) (lastLine u earlier)
+
+-- the masked terms of the swap's last full message
+unfoldable pub lastMasked : Caps → List ℕ → List (List ℕ) → List ℕ
+lastMasked caps u [] = []
+lastMasked caps u (e ∷ earlier) =
+    choose (both (sameBytes (swapOf e) u) (hasAction isFull e)) (maskedTerms caps e) (lastMasked caps u earlier)
+
+unfoldable pub toldTerms : Caps → List (List ℕ) → List ℕ → List ℕ
+toldTerms caps earlier m = choose (hasAction isFull m) (maskedTerms caps m) (lastMasked caps (swapOf m) earlier)
+
+abbrev pub lineBy : Checked → ℕ → ℕ → List ℕ → List ℕ → List ℕ
+lineBy (Fault code) identifier previous m terms = []
+lineBy (Value a) identifier previous m terms = line a identifier previous m terms
+
+-- the line of a message that is published after the earlier ones
+unfoldable pub toldLine : Caps → List (List ℕ) → List ℕ → List ℕ
+toldLine caps earlier m = lineBy (actionIn m) (suc (length earlier)) (lastLine (swapOf m) earlier) m (toldTerms caps earlier m)
+
+unfoldable pub told : Caps → List (List ℕ) → List (List ℕ) → List ℕ
+told caps earlier [] = []
+told caps earlier (m ∷ ms) = toldLine caps earlier m ++ told caps (m ∷ earlier) ms
+
+-- the tape says what the published messages and the caps say, and nothing else
+abbrev pub Tape-told : Type 0
+Tape-told =
+    (limits : Limits) (caps : Caps) (l : List ℕ) (h : List Call)
+    → limits .largest < 256 ^ u32
+    → opened limits caps l .verdict ≡ 0
+    → tape limits (start limits caps l) h ≡ told caps [] (published limits (start limits caps l) h)

@@ -1,0 +1,38 @@
+-- Document 01, 'Verdict numbers': those of opening, and those of a submission that the rules of a message alone (crate rules) have not.
+use Prim.Native.Nat.{ℕ}
+
+-- The ledger buffer is shorter than 224 bytes.
+abbrev pub ledgerShort : ℕ
+ledgerShort = 1
+
+-- A cap is outside its range or is not its own rounded amount.
+abbrev pub capWrong : ℕ
+capWrong = 2
+
+-- The ledger is shorter than 224 bytes, or its header breaks the layout, has more rows than capacity or has a cap that 2 refuses.
+abbrev pub ledgerWrong : ℕ
+ledgerWrong = 3
+
+-- The tape buffer is shorter than 146 bytes, even for PRTO.
+abbrev pub tapeShort : ℕ
+tapeShort = 4
+
+-- The swap's row has a status outside 1 to 4 or an identifier outside 1 to next less 1.
+abbrev pub rowWrong : ℕ
+rowWrong = 14
+
+-- The swap's status does not admit the action.
+abbrev pub notAdmitted : ℕ
+notAdmitted = 15
+
+-- MODI or REVI has another execution timestamp than the row.
+abbrev pub otherTime : ℕ
+otherTime = 16
+
+-- NEWT finds rows in use equal to capacity.
+abbrev pub ledgerFull : ℕ
+ledgerFull = 17
+
+-- A line is due and the next identifier is 1,000,000,000,000.
+abbrev pub identifiersSpent : ℕ
+identifiersSpent = 18
