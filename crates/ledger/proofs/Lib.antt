@@ -1,5 +1,8 @@
-pub mod RowAfterLaws
-pub mod LineLaws
-pub mod ReadBack
-pub mod RowFields
+pub mod HeaderLaws
 pub mod RightHeader
+pub mod NewHeader
+pub mod RowLaws
+pub mod RowAfterLaws
+pub mod RowFields
+pub mod ReadBack
+pub mod LineLaws

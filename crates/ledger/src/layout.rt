@@ -20,12 +20,14 @@ pub const CAPACITY_AT: usize = 60;
 
 pub const HEADER_SIZE: usize = 64;
 
-// A row.
+// A row: status and UTI length are of one byte.
+pub const U8: usize = 1;
+
 pub const STATUS_AT: usize = 0;
 
-pub const LENGTH_AT: usize = 1;
+pub const LENGTH_AT: usize = STATUS_AT + U8;
 
-pub const UTI_AT: usize = 2;
+pub const UTI_AT: usize = LENGTH_AT + U8;
 
 pub const UTI_SIZE: usize = 52;
 

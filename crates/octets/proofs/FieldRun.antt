@@ -13,7 +13,7 @@ use Rattle.octets.specs.Choice.{both}
 use Rattle.octets.specs.Part.{part, splice}
 use Rattle.octets.specs.Field.{field}
 use Rattle.octets.proofs.ChoiceLaws.{both-first, both-second}
-use Rattle.octets.proofs.PartLaws.{length-splice, splice-splice, splice-none}
+use Rattle.octets.proofs.PartLaws.{length-splice, splice-splice, splice-none, splice-all}
 use Rattle.octets.proofs.FieldLaws.{length-field, field-exact}
 use Rattle.octets.specs.Fields.{FieldAt, bytesOf, written}
 
@@ -29,9 +29,17 @@ pub last-written : (start : ℕ) (f : FieldAt) (d : List ℕ) {e : List ℕ} →
 unfolding written
 last-written start f d e = e
 
--- a field whose text is as long as it
-pub exact-text : (f : FieldAt) (d : List ℕ) (at : ℕ) → length (f .2) ≡ f .1 → splice d at (f .2) ≡ splice d at (field (f .1) (f .2))
-exact-text f d at size = ap (splice d at) (sym (field-exact (f .1) (f .2) size))
+module _ (start : ℕ) (f : FieldAt) (size : length (f .2) ≡ f .1) (d : List ℕ) where
+  exact-text : splice d (f .0 - start) (f .2) ≡ splice d (f .0 - start) (field (f .1) (f .2))
+  exact-text = ap (splice d (f .0 - start)) (sym (field-exact (f .1) (f .2) size))
+
+  -- a field whose text is as long as it, then the others
+  pub then-exact : (fs : List FieldAt) {e last : List ℕ} → e ≡ splice d (f .0 - start) (f .2) → last ≡ written start fs e → last ≡ written start (f ∷ fs) d
+  then-exact fs e rest = then-written start f fs d (e ∙ exact-text) rest
+
+  -- such a field is the last one
+  pub last-exact : {e : List ℕ} → e ≡ splice d (f .0 - start) (f .2) → e ≡ written start (f ∷ []) d
+  last-exact e = last-written start f d (e ∙ exact-text)
 
 pub written-append : (start : ℕ) (fs gs : List FieldAt) (d : List ℕ) → written start (fs ++ gs) d ≡ written start gs (written start fs d)
 unfolding written
@@ -74,6 +82,13 @@ written-row start at (f ∷ fs) end d ok l h =
     let long : length first ≡ length d = length-splice d (field (f .1) (f .2)) (at - start) (omega arith) in
     let next : at + f .1 - start ≡ at - start + length (field (f .1) (f .2)) = omega arith in
     rw here (written-row start (at + f .1) fs end first after (omega arith) (omega arith) ∙ rw next (splice-splice d (field (f .1) (f .2)) (bytesOf fs) (at - start) (omega arith)))
+
+-- written into bytes of just their length
+pub all-written : (start : ℕ) (fs : List FieldAt) (end : ℕ) (d : List ℕ) {last : List ℕ} → inPlace start fs end ≡ true → length d ≡ end - start → last ≡ written start fs d → last ≡ bytesOf fs
+all-written start fs end d ok size run =
+    let whole : length (bytesOf fs) ≡ length d = omega (arith, length-bytes start fs end ok) in
+    let front : start - start ≡ 0 = omega arith in
+    run ∙ written-row start start fs end d ok (omega arith) (omega arith) ∙ rw front (splice-all d (bytesOf fs) whole)
 
 -- ---- each field stands at its offset
 

@@ -15,9 +15,8 @@ use Rattle.price.specs.Price.{shownPrice}
 use Rattle.octets.specs.Part.{part}
 use Rattle.octets.specs.Field.{field}
 use Rattle.octets.specs.Fields.{written}
-use Rattle.octets.proofs.PartLaws.{splice-all}
 use Rattle.terms.specs.Terms.{termsStart, termsEnd, termsSize, notionalDigits, shownTruth, priceText, dateFields, truthFields, priceFields, notionalFields, termFields, termsOf}
-use Rattle.octets.proofs.FieldRun.{inPlace, length-bytes, written-append, written-row, noField, field-placed}
+use Rattle.octets.proofs.FieldRun.{inPlace, length-bytes, written-append, all-written, noField, field-placed}
 
 -- ---- what is shown of a value
 
@@ -66,10 +65,9 @@ term-placed cap m k h = field-placed termsStart (termFields cap m) termsEnd k (i
 pub groups-written : (cap : ℕ) (m d : List ℕ) {d₁ d₂ d₃ last : List ℕ} → length d ≡ termsSize → d₁ ≡ written termsStart (dateFields m) d → d₂ ≡ written termsStart (truthFields m) d₁ → d₃ ≡ written termsStart (priceFields m) d₂ → last ≡ written termsStart (notionalFields cap m) d₃ → last ≡ termsOf cap m
 unfolding termsOf termFields
 groups-written cap m d {d₁} {d₂} {d₃} {last} size e₁ e₂ e₃ e₄ =
-    let run : last ≡ written termsStart (termFields cap m) d =
-    e₄
+    all-written termsStart (termFields cap m) termsEnd d (in-place cap m) size
+    (e₄
     ∙ ap (written termsStart (notionalFields cap m)) (e₃ ∙ ap (written termsStart (priceFields m)) (e₂ ∙ ap (written termsStart (truthFields m)) e₁))
     ∙ sym (written-append termsStart (priceFields m) (notionalFields cap m) _)
     ∙ sym (written-append termsStart (truthFields m) (priceFields m ++ notionalFields cap m) _)
-    ∙ sym (written-append termsStart (dateFields m) (truthFields m ++ (priceFields m ++ notionalFields cap m)) d) in
-    run ∙ written-row termsStart termsStart (termFields cap m) termsEnd d (in-place cap m) (omega arith) (omega arith) ∙ splice-all d (termsOf cap m) (length-terms cap m ∙ sym size)
+    ∙ sym (written-append termsStart (dateFields m) (truthFields m ++ (priceFields m ++ notionalFields cap m)) d))

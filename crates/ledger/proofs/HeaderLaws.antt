@@ -1,0 +1,38 @@
+-- Laws of specs/Header.antt. Assumes nothing.
+use Prim.Native.Nat.{ℕ, _≤_}
+use Prim.Native.String.{String}
+use mathlib.Core.Bool.{Bool, true, false}
+use mathlib.Core.List.{List, [], _∷_}
+use mathlib.Core.Path.{_≡_}
+use native.Mathlib.Omega.{arith}
+use Rattle.octets.specs.Choice.{choose}
+use Rattle.octets.specs.Same.{sameBytes, beside}
+use Rattle.octets.specs.Text.{text}
+use Rattle.octets.proofs.ChoiceLaws.{both-first, both-second}
+use Rattle.notional.specs.Masking.{isCap, largestCap}
+use Rattle.notional.proofs.MaskingLaws.{cap-largest}
+use Rattle.ledger.specs.Header.{capFor, areCaps}
+use Rattle.ledger.specs.declared.header.Caps.{Caps}
+
+-- ---- the cap of a class is what the masking requires of it
+
+none-largest : (v : List ℕ) → beside [] 0 v ≤ largestCap
+unfolding beside
+none-largest v = omega arith
+
+more-largest : (c : String × ℕ) (cs : List (String × ℕ)) (v : List ℕ) → isCap (c .1) ≡ true → beside cs 0 v ≤ largestCap → beside (c ∷ cs) 0 v ≤ largestCap
+unfolding beside
+more-largest c cs v e l = by (sameBytes v (text (c .0)))
+  where
+    by : (t : Bool) → choose t (c .1) (beside cs 0 v) ≤ largestCap
+    by true = cap-largest (c .1) e
+    by false = l
+
+pub cap-for-largest : (caps : Caps) → areCaps caps ≡ true → (v : List ℕ) → capFor caps v ≤ largestCap
+unfolding capFor areCaps
+cap-for-largest caps e v =
+    let ir = both-second (isCap (caps .cr)) _ e in
+    let fx = both-second (isCap (caps .ir)) _ ir in
+    let eq = both-second (isCap (caps .fx)) _ fx in
+    let co = both-second (isCap (caps .eq)) _ eq in
+    more-largest _ _ v (both-first _ _ e) (more-largest _ _ v (both-first _ _ ir) (more-largest _ _ v (both-first _ _ fx) (more-largest _ _ v (both-first _ _ eq) (more-largest _ _ v co (none-largest v)))))

@@ -1,0 +1,19 @@
+-- `ledger::rows::update_header` meets its contract. Assumes nothing.
+use mathlib.Core.Path.{ap, _∙_}
+use Prim.Native.Nat.{_+_}
+use Rattle.octets.specs.Choice.{choose}
+use Rattle.actions.specs.Actions.{writesLine}
+use Rattle.ledger.specs.Rows.{withNext, headerAfter}
+use borrow.Author.Needs.{needs}
+use Rattle.ledger.proofs.rows.update_header.Statement.{statement}
+use Rattle.ledger.proofs.rows.update_header.Tie as tie
+
+returns : tie.Need-returns
+unfolding headerAfter
+returns c =
+    let a = c .before .before .before .before .before .before .before .before .before .args in
+    c .before .before .raise-next .ensures ∙ ap (λ l. choose (writesLine (a .a)) (withNext (a .next + 1) l) l) (c .before .before .before .before .before .before .raise-rows .ensures)
+
+pub update-header-spec : {M : Type 1} → statement M
+update-header-spec =
+    tie.close (tie.spec (λ c κs. search needs) (λ c κs. search needs) (λ c. search needs) returns)

@@ -1,0 +1,134 @@
+// What each action writes of a row and of the header.
+ghost use mathlib.Core.Path.{_≡_};
+ghost use Prim.Native.Nat.{_+_, _^_, _<_, _≤_};
+ghost use lib.ListN.{length};
+ghost use Rattle.octets.specs.Choice.{choose};
+ghost use Rattle.octets.specs.Part.{splice};
+ghost use Rattle.actions.specs.Actions.{isNew, writesLine};
+ghost use Rattle.terms.specs.Terms.{termsSize};
+ghost use Rattle.ledger.specs.Layout.{u32, utiSize, rowSize, rowStart, headerSize, lastIdentifier};
+ghost use Rattle.ledger.specs.Rows.{newRow, withStatus, withIdentifier, withTerms, rowAfter, rowAt, withRows, withNext, headerAfter};
+use crate::layout::HEADER_SIZE;
+use crate::layout::IDENTIFIER_AT;
+use crate::layout::LENGTH_AT;
+use crate::layout::NEXT_AT;
+use crate::layout::ROW_SIZE;
+use crate::layout::ROWS_AT;
+use crate::layout::STATUS_AT;
+use crate::layout::TAIL_AT;
+use crate::layout::TAIL_SIZE;
+use crate::layout::TERMS_AT;
+use crate::layout::U8;
+use crate::layout::U32;
+use crate::layout::U64;
+use crate::layout::UTI_AT;
+use crate::layout::UTI_SIZE;
+use actions::Action;
+use actions::is_new;
+use actions::writes_line;
+use octets::copy_at;
+use octets::field_at;
+use octets::fill_at;
+use octets::write_at;
+
+// NEWT writes the whole row.
+fn write_row(row: &mut [u8], status: u8, uti: &[u8], identifier: u64, terms: &[u8])
+    requires { ⌜ (length (now row) ≡ rowSize) × (length (now uti) ≤ utiSize) × (length (now terms) ≡ termsSize) ⌝ }
+    ensures { λ _. ⌜ now (row .exit) ≡ newRow status (now (uti .entry)) identifier (now (terms .entry)) ⌝ }
+{
+    fill_at(row, STATUS_AT, U8, status);
+    fill_at(row, LENGTH_AT, U8, uti.len() as u8);
+    field_at(row, UTI_AT, UTI_SIZE, uti);
+    write_at(row, IDENTIFIER_AT, U64, identifier);
+    copy_at(row, TERMS_AT, terms);
+    fill_at(row, TAIL_AT, TAIL_SIZE, 0);
+}
+
+// PRTO writes the status.
+fn set_status(row: &mut [u8], status: u8)
+    requires { ⌜ length (now row) ≡ rowSize ⌝ }
+    ensures { λ _. ⌜ now (row .exit) ≡ withStatus status (now (row .entry)) ⌝ }
+{
+    fill_at(row, STATUS_AT, U8, status);
+}
+
+// TERM and EROR write status and identifier.
+fn mark_row(row: &mut [u8], status: u8, identifier: u64)
+    requires { ⌜ length (now row) ≡ rowSize ⌝ }
+    ensures { λ _. ⌜ now (row .exit) ≡ withIdentifier identifier (withStatus status (now (row .entry))) ⌝ }
+{
+    set_status(row, status);
+    write_at(row, IDENTIFIER_AT, U64, identifier);
+}
+
+// MODI, CORR and REVI write status, identifier and terms.
+fn change_row(row: &mut [u8], status: u8, identifier: u64, terms: &[u8])
+    requires { ⌜ (length (now row) ≡ rowSize) × (length (now terms) ≡ termsSize) ⌝ }
+    ensures { λ _. ⌜ now (row .exit) ≡ withTerms (now (terms .entry)) (withIdentifier identifier (withStatus status (now (row .entry)))) ⌝ }
+{
+    mark_row(row, status, identifier);
+    copy_at(row, TERMS_AT, terms);
+}
+
+// What the action writes of the swap's row.
+fn update_row(row: &mut [u8], a: Action, status: u8, uti: &[u8], identifier: u64, terms: &[u8])
+    requires { ⌜ (length (now row) ≡ rowSize) × (length (now uti) ≤ utiSize) × (length (now terms) ≡ termsSize) ⌝ }
+    ensures { λ _. ⌜ now (row .exit) ≡ rowAfter a status (now (uti .entry)) identifier (now (terms .entry)) (now (row .entry)) ⌝ }
+{
+    match a {
+        Action::Newt => write_row(row, status, uti, identifier, terms),
+        Action::Modi => change_row(row, status, identifier, terms),
+        Action::Corr => change_row(row, status, identifier, terms),
+        Action::Term => mark_row(row, status, identifier),
+        Action::Eror => mark_row(row, status, identifier),
+        Action::Revi => change_row(row, status, identifier, terms),
+        Action::Prto => set_status(row, status),
+    }
+}
+
+// Updates the row at place k: its own part of the ledger is lent.
+pub fn store_row(
+    l: &mut [u8],
+    k: usize,
+    a: Action,
+    status: u8,
+    uti: &[u8],
+    identifier: u64,
+    terms: &[u8],
+)
+    requires { ⌜ (rowStart (k + 1) ≤ length (now l)) × (length (now uti) ≤ utiSize) × (length (now terms) ≡ termsSize) ⌝ }
+    ensures { λ _. ⌜ now (l .exit) ≡ splice (now (l .entry)) (rowStart k) (rowAfter a status (now (uti .entry)) identifier (now (terms .entry)) (rowAt (now (l .entry)) k)) ⌝ }
+{
+    let start = HEADER_SIZE + k * ROW_SIZE;
+    let end = start + ROW_SIZE;
+    update_row(&mut l[start..end], a, status, uti, identifier, terms);
+}
+
+// A new swap raises rows in use by one.
+fn raise_rows(l: &mut [u8], a: Action, rows: u64)
+    requires { ⌜ (headerSize ≤ length (now l)) × (rows < 256 ^ u32) ⌝ }
+    ensures { λ _. ⌜ now (l .exit) ≡ choose (isNew a) (withRows (rows + 1) (now (l .entry))) (now (l .entry)) ⌝ }
+{
+    if is_new(a) {
+        write_at(l, ROWS_AT, U32, rows + 1);
+    }
+}
+
+// Each line raises the next identifier by one.
+fn raise_next(l: &mut [u8], a: Action, next: u64)
+    requires { ⌜ (headerSize ≤ length (now l)) × (next ≤ lastIdentifier) ⌝ }
+    ensures { λ _. ⌜ now (l .exit) ≡ choose (writesLine a) (withNext (next + 1) (now (l .entry))) (now (l .entry)) ⌝ }
+{
+    if writes_line(a) {
+        write_at(l, NEXT_AT, U64, next + 1);
+    }
+}
+
+// What the action writes of the header.
+pub fn update_header(l: &mut [u8], a: Action, rows: u64, next: u64)
+    requires { ⌜ (headerSize ≤ length (now l)) × (rows < 256 ^ u32) × (next ≤ lastIdentifier) ⌝ }
+    ensures { λ _. ⌜ now (l .exit) ≡ headerAfter a rows next (now (l .entry)) ⌝ }
+{
+    raise_rows(l, a, rows);
+    raise_next(l, a, next);
+}

@@ -1,0 +1,90 @@
+// Rows of the ledger: what a row says, and the search for a swap's row.
+ghost use mathlib.Core.Path.{_≡_};
+ghost use Prim.Native.Nat.{_+_, _≤_};
+ghost use lib.ListN.{length};
+ghost use Rattle.ledger.specs.Layout.{rowSize, rowStart};
+ghost use Rattle.ledger.specs.Rows.{rowAt, statusOf, identifierOf, storedTerms, storedTime, holdsUti, placeIn};
+use crate::layout::HEADER_SIZE;
+use crate::layout::IDENTIFIER_AT;
+use crate::layout::LENGTH_AT;
+use crate::layout::ROW_SIZE;
+use crate::layout::STATUS_AT;
+use crate::layout::TERMS_AT;
+use crate::layout::U64;
+use crate::layout::UTI_AT;
+use octets::part_of;
+use octets::read_at;
+use octets::same;
+use terms::SIZE;
+use terms::TIME_SIZE;
+
+// The row at a place: a part of the ledger itself.
+fn row_at<'a>(l: &'a [u8], k: usize) -> &'a [u8]
+    requires { ⌜ rowStart (k + 1) ≤ length (now l) ⌝ }
+    ensures { λ r. ⌜ (now r ≡ rowAt (now (l .entry)) k) × (length (now r) ≡ rowSize) ⌝ }
+{
+    let start = HEADER_SIZE + k * ROW_SIZE;
+    let end = start + ROW_SIZE;
+    &l[start..end]
+}
+
+// The status of the row at a place.
+pub fn status_at(l: &[u8], k: usize) -> u8
+    requires { ⌜ rowStart (k + 1) ≤ length (now l) ⌝ }
+    ensures { λ r. ⌜ r ≡ statusOf (rowAt (now (l .entry)) k) ⌝ }
+{
+    let row = row_at(l, k);
+    row[STATUS_AT]
+}
+
+// The swap's last identifier, as the row at a place has it.
+pub fn identifier_at(l: &[u8], k: usize) -> u64
+    requires { ⌜ rowStart (k + 1) ≤ length (now l) ⌝ }
+    ensures { λ r. ⌜ r ≡ identifierOf (rowAt (now (l .entry)) k) ⌝ }
+{
+    read_at(row_at(l, k), IDENTIFIER_AT, U64)
+}
+
+// The masked terms of the row at a place.
+pub fn terms_at<'a>(l: &'a [u8], k: usize) -> &'a [u8]
+    requires { ⌜ rowStart (k + 1) ≤ length (now l) ⌝ }
+    ensures { λ r. ⌜ now r ≡ storedTerms (rowAt (now (l .entry)) k) ⌝ }
+{
+    part_of(row_at(l, k), TERMS_AT, SIZE)
+}
+
+// The execution time of the row at a place.
+pub fn time_at<'a>(l: &'a [u8], k: usize) -> &'a [u8]
+    requires { ⌜ rowStart (k + 1) ≤ length (now l) ⌝ }
+    ensures { λ r. ⌜ now r ≡ storedTime (rowAt (now (l .entry)) k) ⌝ }
+{
+    part_of(row_at(l, k), TERMS_AT, TIME_SIZE)
+}
+
+// Whether the row at a place is the swap's: equal length, and that many equal bytes, compared from the last one.
+fn holds_uti(l: &[u8], k: usize, uti: &[u8]) -> bool
+    requires { ⌜ rowStart (k + 1) ≤ length (now l) ⌝ }
+    ensures { λ r. ⌜ r ≡ holdsUti (now (uti .entry)) (rowAt (now (l .entry)) k) ⌝ }
+{
+    let row = row_at(l, k);
+    let n = uti.len();
+    if row[LENGTH_AT] as usize != n {
+        return false;
+    }
+    same(part_of(row, UTI_AT, n), uti)
+}
+
+// The place of the first of so many rows that is the swap's; their number where none is.
+pub fn find_row(l: &[u8], rows: usize, uti: &[u8]) -> usize
+    requires { ⌜ rowStart rows ≤ length (now l) ⌝ }
+    ensures { λ r. ⌜ (r ≡ placeIn (now (l .entry)) rows (now (uti .entry))) × (r ≤ rows) ⌝ }
+{
+    let mut k = 0;
+    while k < rows {
+        if holds_uti(l, k, uti) {
+            return k;
+        }
+        k += 1;
+    }
+    k
+}
