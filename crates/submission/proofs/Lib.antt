@@ -3,3 +3,5 @@ pub mod Lookup
 pub mod Turn
 pub mod Told
 pub mod Pairs
+pub mod Opened
+pub mod Demand3

@@ -1,0 +1,73 @@
+-- A ledger that opening answered with 0. Assumes nothing.
+use Prim.Native.Nat.{ℕ, _+_, _*_, _^_, _<_, _≤_}
+use mathlib.Core.Bool.{Bool, true, false, false≢true}
+use mathlib.Core.Path.{_≡_, refl, sym, ap, _∙_}
+use mathlib.Core.List.{List, []}
+use native.Mathlib.Omega.{arith}
+use lib.ListN.{length}
+use lib.Dec.{ltb, lit<}
+use borrow.Author.Tests.{ltb-true, ltb-false, eq-eqb}
+use Rattle.octets.specs.Part.{splice}
+use Rattle.rules.specs.Findings.{passed}
+use Rattle.rules.proofs.FindingLaws.{unused, distinct, findingAt, all-passed}
+use Rattle.ledger.specs.declared.header.Caps.{Caps}
+use Rattle.ledger.specs.Layout.{u32, rowsAt, headerSize, shortestLedger}
+use Rattle.ledger.specs.Header.{rowsInUse, nextIdentifier, capsIn, areCaps, capacityFor, headerRight, newHeader}
+use Rattle.ledger.specs.Rows.{placeOf, isKnown}
+use Rattle.ledger.proofs.NewHeader as header
+use Rattle.submission.specs.Opening.{Limits, openingRules, openingVerdict, opened}
+use Rattle.submission.specs.Demand3.{start}
+use Rattle.submission.proofs.Acceptance.{not-broken, not-not}
+use Rattle.submission.proofs.Told.{Holds}
+
+opening-differ : (caps : Caps) (l : List ℕ) → distinct (openingRules caps l) ≡ true
+unfolding openingRules unused distinct
+opening-differ caps l = refl
+
+module _ (limits : Limits) (caps : Caps) (l : List ℕ) (v : opened limits caps l .verdict ≡ 0) where
+  passes : (i : ℕ) → i < length (openingRules caps l) → findingAt (openingRules caps l) i ≡ passed
+  unfolding opened openingVerdict
+  passes = all-passed (openingRules caps l) (opening-differ caps l) v
+
+  pub long-enough : shortestLedger ≤ length l
+  unfolding openingRules
+  long-enough = ltb-false _ _ (not-broken _ (passes 0 (lit< tt)))
+
+  pub caps-right : areCaps caps ≡ true
+  unfolding openingRules
+  caps-right = not-not _ (not-broken _ (passes 1 (lit< tt)))
+
+  room : headerSize ≤ length l
+  room = omega (arith, long-enough)
+
+  -- the header is written, and no other byte
+  pub start-is : start limits caps l ≡ splice l rowsAt (newHeader caps (capacityFor (limits .largest) (length l)))
+  unfolding opened
+  start-is = rw (eq-eqb _ 0 v)
+
+  pub start-rows : rowsInUse (start limits caps l) ≡ 0
+  start-rows = ap rowsInUse start-is ∙ header.opened-rows caps _ l room
+
+  pub start-next : nextIdentifier (start limits caps l) ≡ 1
+  start-next = ap nextIdentifier start-is ∙ header.opened-next caps _ l room
+
+  pub start-caps : capsIn (start limits caps l) ≡ caps
+  start-caps = ap capsIn start-is ∙ header.opened-caps caps _ l room caps-right
+
+  -- it passes the check of the header: no history starts with verdict 3
+  pub start-right : limits .largest < 256 ^ u32 → headerRight (limits .largest) (start limits caps l) ≡ true
+  start-right small = ap (headerRight (limits .largest)) start-is ∙ header.opened-right (limits .largest) caps l small long-enough caps-right
+
+  nothing-known : (u : List ℕ) → isKnown (start limits caps l) u ≡ true → ⊥
+  unfolding isKnown
+  nothing-known u e = omega (arith, ltb-true (placeOf (start limits caps l) u) (rowsInUse (start limits caps l)) e, start-rows)
+
+  -- it holds what no message has said
+  pub start-holds : Holds caps (start limits caps l) []
+  start-holds =
+      record {
+        caps-are = start-caps;
+        next-is = start-next;
+        identifiers = λ u h e. absurd (nothing-known u e);
+        terms = λ u h e. absurd (nothing-known u e);
+      }
