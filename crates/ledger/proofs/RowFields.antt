@@ -16,7 +16,7 @@ use Rattle.octets.specs.Number.{fromLe, toLe}
 use Rattle.octets.specs.Field.{field}
 use Rattle.octets.specs.Fields.{bytesOf}
 use Rattle.octets.proofs.ChoiceLaws.{both-first, both-second}
-use Rattle.octets.proofs.PartLaws.{part-at, part-before, part-after}
+use Rattle.octets.proofs.PartLaws.{part-at, part-before, part-after, same-byte}
 use Rattle.octets.proofs.SameLaws.{same-refl, same-true}
 use Rattle.octets.proofs.NumberLaws.{length-toLe, fromLe-toLe}
 use Rattle.octets.proofs.FieldLaws.{field-fits, field-exact}
@@ -25,20 +25,9 @@ use Rattle.terms.specs.Terms.{termsSize}
 use Rattle.actions.specs.declared.Action.{Action}
 use Rattle.actions.specs.declared.Action.the-variants.{Newt, Modi, Corr, Term, Eror, Revi, Prto}
 use Rattle.actions.specs.Actions.{isFull, isNew, writesLine}
-use Rattle.ledger.specs.Layout.{u64, statusAt, lengthAt, utiAt, utiSize, identifierAt, termsAt, rowSize}
+use Rattle.ledger.specs.Layout.{u64, statusAt, lengthAt, utiAt, utiSize, identifierAt, termsAt, tailAt, tailSize, rowSize}
 use Rattle.ledger.specs.Rows.{statusOf, identifierOf, storedTerms, holdsUti, rowFields, newRow, withStatus, withIdentifier, withTerms, rowAfter}
 use Rattle.ledger.proofs.RowAfterLaws.{row-in-place, length-with-status, length-with-identifier}
-
--- a byte is a part of one byte
-byte-part : (r : List ℕ) (i : ℕ) → getD r i 0 ≡ getD (part r i 1) 0 0
-byte-part [] zero = refl
-byte-part [] (suc i) = refl
-byte-part (x ∷ r) zero = refl
-byte-part (x ∷ r) (suc i) = byte-part r i
-
-byte-first : (r : List ℕ) → statusOf r ≡ getD (part r statusAt 1) 0 0
-unfolding statusOf
-byte-first r = byte-part r statusAt
 
 -- a field that is long enough opens with its text
 opens : (n : ℕ) (u : List ℕ) → length u ≤ n → take (length u) (field n u) ≡ u
@@ -50,7 +39,7 @@ opens n u h = rw (field-fits n u h) (take-at u _ (length u) refl)
 same-uti : (r r′ : List ℕ) → ((from n : ℕ) → lengthAt ≤ from → from + n ≤ identifierAt → part r′ from n ≡ part r from n) → (u : List ℕ) → length u ≤ utiSize → holdsUti u r′ ≡ holdsUti u r
 unfolding holdsUti
 same-uti r r′ same u h =
-    let byte : getD r′ lengthAt 0 ≡ getD r lengthAt 0 = byte-part r′ lengthAt ∙ ap (λ p. getD p 0 0) (same lengthAt 1 (omega arith) (omega arith)) ∙ sym (byte-part r lengthAt) in
+    let byte : getD r′ lengthAt 0 ≡ getD r lengthAt 0 = same-byte r′ r lengthAt (same lengthAt 1 (omega arith) (omega arith)) in
     rw (byte, same utiAt (length u) (omega arith) (omega arith))
 
 module _ (r : List ℕ) (size : length r ≡ rowSize) where
@@ -90,6 +79,10 @@ module _ (r : List ℕ) (size : length r ≡ rowSize) where
     terms-front : (from n : ℕ) → from + n ≤ termsAt → part (withTerms terms r) from n ≡ part r from n
     unfolding withTerms
     terms-front from n b = part-before r terms termsAt terms-fit from n b
+
+    terms-rest : (from n : ℕ) → tailAt ≤ from → part (withTerms terms r) from n ≡ part r from n
+    unfolding withTerms
+    terms-rest from n b = part-after r terms termsAt terms-fit from n (omega arith)
 
     terms-terms : storedTerms (withTerms terms r) ≡ terms
     unfolding storedTerms withTerms
@@ -148,21 +141,19 @@ module _ (a : Action) (status : ℕ) (u : List ℕ) (identifier : ℕ) (terms r 
 
   -- the status is written by every action
   pub after-status : statusOf (rowAfter a status u identifier terms r) ≡ status
+  unfolding statusOf
   after-status = by a
     where
-      first : (x y : List ℕ) → part x statusAt 1 ≡ part y statusAt 1 → statusOf y ≡ status → statusOf x ≡ status
-      first x y e f = byte-first x ∙ ap (λ p. getD p 0 0) e ∙ sym (byte-first y) ∙ f
-
-      one : statusOf (withStatus status r) ≡ status
+      one : getD (withStatus status r) statusAt 0 ≡ status
       one = status-status r size status
 
-      two : statusOf (withIdentifier identifier (withStatus status r)) ≡ status
-      two = first _ _ (identifier-front (withStatus status r) size₁ identifier statusAt 1 (omega arith)) one
+      two : getD (withIdentifier identifier (withStatus status r)) statusAt 0 ≡ status
+      two = same-byte (withIdentifier identifier (withStatus status r)) (withStatus status r) statusAt (identifier-front (withStatus status r) size₁ identifier statusAt 1 (omega arith)) ∙ one
 
-      three : statusOf (withTerms terms (withIdentifier identifier (withStatus status r))) ≡ status
-      three = first _ _ (terms-front (withIdentifier identifier (withStatus status r)) size₂ terms long statusAt 1 (omega arith)) two
+      three : getD (withTerms terms (withIdentifier identifier (withStatus status r))) statusAt 0 ≡ status
+      three = same-byte (withTerms terms (withIdentifier identifier (withStatus status r))) (withIdentifier identifier (withStatus status r)) statusAt (terms-front (withIdentifier identifier (withStatus status r)) size₂ terms long statusAt 1 (omega arith)) ∙ two
 
-      by : (a : Action) → statusOf (rowAfter a status u identifier terms r) ≡ status
+      by : (a : Action) → getD (rowAfter a status u identifier terms r) statusAt 0 ≡ status
       by Newt = new-status status u identifier terms
       by Modi = three
       by Corr = three
@@ -228,6 +219,28 @@ module _ (a : Action) (status : ℕ) (u : List ℕ) (identifier : ℕ) (terms r 
       three = terms-front (withIdentifier identifier (withStatus status r)) size₂ terms long from n (omega arith) ∙ two
 
       by : (a : Action) → isNew a ≡ false → part (rowAfter a status u identifier terms r) from n ≡ part r from n
+      by Newt f = absurd (false≢true (sym f))
+      by Modi f = three
+      by Corr f = three
+      by Term f = two
+      by Eror f = two
+      by Revi f = three
+      by Prto f = one
+
+  -- and so are the last bytes
+  pub after-tail : isNew a ≡ false → part (rowAfter a status u identifier terms r) tailAt tailSize ≡ part r tailAt tailSize
+  after-tail e = by a e
+    where
+      one : part (withStatus status r) tailAt tailSize ≡ part r tailAt tailSize
+      one = status-rest r size status tailAt tailSize (omega arith)
+
+      two : part (withIdentifier identifier (withStatus status r)) tailAt tailSize ≡ part r tailAt tailSize
+      two = identifier-rest (withStatus status r) size₁ identifier tailAt tailSize (omega arith) ∙ one
+
+      three : part (withTerms terms (withIdentifier identifier (withStatus status r))) tailAt tailSize ≡ part r tailAt tailSize
+      three = terms-rest (withIdentifier identifier (withStatus status r)) size₂ terms long tailAt tailSize (omega arith) ∙ two
+
+      by : (a : Action) → isNew a ≡ false → part (rowAfter a status u identifier terms r) tailAt tailSize ≡ part r tailAt tailSize
       by Newt f = absurd (false≢true (sym f))
       by Modi f = three
       by Corr f = three

@@ -1,10 +1,11 @@
 -- Laws of specs/Part.antt: what a part and a splice have, and what a lent part is. Assumes nothing.
 use mathlib.Core.Path.{_≡_, refl, sym, ap, _∙_}
-use mathlib.Core.List.{List, [], _++_, append-assoc, append-nil}
-use Prim.Native.Nat.{ℕ, _+_, _-_, _≤_}
+use mathlib.Core.List.{List, [], _∷_, _++_, append-assoc, append-nil}
+use Prim.Native.Nat.{ℕ, zero, suc, _+_, _-_, _≤_}
 use native.Mathlib.Nat.{zero-add, add-zero, add-assoc, add-sub-cancel-left}
 use native.Mathlib.Omega.{arith}
-use lib.ListN.{length, take, drop, length-append, length-take, length-drop, drop-of-length-le, take-append-drop}
+use native.Mathlib.Decide.{decLt}
+use lib.ListN.{length, getD, take, drop, length-append, length-take, length-drop, drop-of-length-le, take-append-drop}
 use lib.Seq.{length-take-le, drop-drop, take-at, drop-at, take-append-le, drop-append-le}
 use Rattle.octets.specs.Part.{part, splice}
 
@@ -78,6 +79,27 @@ module _ (d ys : List ℕ) (at : ℕ) (h : at + length ys ≤ length d) where
       ∙ drop-drop (from - (at + length ys)) (at + length ys) d
       ∙ ap (λ (j : ℕ). drop j d) k in
       rw a (ap (take n) e)
+
+-- ---- single bytes
+
+-- a byte is a part of one byte
+pub byte-part : (xs : List ℕ) (i : ℕ) → getD xs i 0 ≡ getD (part xs i 1) 0 0
+byte-part [] zero = refl
+byte-part [] (suc i) = refl
+byte-part (x ∷ xs) zero = refl
+byte-part (x ∷ xs) (suc i) = byte-part xs i
+
+-- a byte where a part is the same is the same
+pub same-byte : (xs ys : List ℕ) (i : ℕ) → part xs i 1 ≡ part ys i 1 → getD xs i 0 ≡ getD ys i 0
+same-byte xs ys i e = byte-part xs i ∙ ap (λ p. getD p 0 0) e ∙ sym (byte-part ys i)
+
+-- a byte that a splice does not cover
+pub byte-apart : (d ys : List ℕ) (at i : ℕ) → at + length ys ≤ length d → (at ≤ i → at + length ys ≤ i) → getD (splice d at ys) i 0 ≡ getD d i 0
+byte-apart d ys at i h outside =
+    elim (decLt i at) [
+      | yes b ↦ same-byte (splice d at ys) d i (part-before d ys at h i 1 (omega arith))
+      | no b ↦ same-byte (splice d at ys) d i (part-after d ys at h i 1 (outside (omega arith)))
+    ]
 
 -- ---- a write right after another is one write
 

@@ -2,7 +2,7 @@
 use Prim.Native.Nat.{ℕ, zero, suc, _+_, _-_, _<_, _≤_}
 use mathlib.Core.Bool.{Bool, true, false, not, false≢true}
 use mathlib.Core.Path.{_≡_, refl, sym, ap, _∙_, subst}
-use mathlib.Core.List.{List, [], _∷_}
+use mathlib.Core.List.{List, [], _∷_, _++_}
 use native.Mathlib.Nat.{not-suc-le-zero, le-of-suc-le-suc}
 use native.Mathlib.Omega.{arith}
 use lib.ListN.{length, getD, drop}
@@ -82,7 +82,7 @@ other-number n (r ∷ rs) zero free h e = head-other n r rs free e
 other-number n (r ∷ rs) (suc i) free h e = other-number n rs i (tail-unused n r rs free) (le-of-suc-le-suc h) e
 
 -- a number that no rule has is not the verdict
-not-verdict : (n : ℕ) (rs : List (ℕ × Finding)) → 0 < n → unused n rs ≡ true → firstBroken rs .0 ≡ n → ⊥
+pub not-verdict : (n : ℕ) (rs : List (ℕ × Finding)) → 0 < n → unused n rs ≡ true → firstBroken rs .0 ≡ n → ⊥
 unfolding firstBroken
 not-verdict n [] p free e = omega arith
 not-verdict n (r ∷ rs) p free e = by (r .1) e (not-verdict n rs p (tail-unused n r rs free))
@@ -135,6 +135,14 @@ none-broken [] all = refl
 none-broken (r ∷ rs) all =
     let here : r .1 ≡ passed = all zero (omega arith) in
     rw here (none-broken rs (λ i h. all (suc i) (omega arith)))
+
+-- rules that are all passed leave the verdict to those after them
+pub passed-then : (rs after : List (ℕ × Finding)) → ((i : ℕ) → i < length rs → findingAt rs i ≡ passed) → firstBroken (rs ++ after) ≡ firstBroken after
+unfolding firstBroken
+passed-then [] after all = refl
+passed-then (r ∷ rs) after all =
+    let here : r .1 ≡ passed = all zero (omega arith) in
+    rw here (passed-then rs after (λ i h. all (suc i) (omega arith)))
 
 -- ---- the lowest element at fault
 

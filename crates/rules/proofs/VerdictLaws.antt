@@ -56,7 +56,7 @@ numberOf Due = dueMissing
 -- ---- the element that a verdict names
 
 -- a test names no element
-of-test : (t : Bool) (e : ℕ) → brokenIf t ≡ broken e → e ≡ 0
+pub of-test : (t : Bool) (e : ℕ) → brokenIf t ≡ broken e → e ≡ 0
 of-test true e f = cc
 of-test false e f =
     let z : _≡_ {A = ℕ} 0 1 = cc in
@@ -113,10 +113,13 @@ unfolding verdict rulesFor
 layout-names-none longest m e v = of-test (not (hasLayout longest m)) e (broken-first (rules longest m) 0 e (numbers-differ longest m) (omega arith) v .0)
 
 -- 6: the element is the action's
+pub action-at-fault : (v : List ℕ) (e : ℕ) → finding (actionOf v) ≡ broken e → e ≡ actionCode
+unfolding actionOf allRead
+action-at-fault v e f = fault-code actionCodes v e refl (of-finding (actionOf v) e f)
+
 pub action-names-itself : (longest : ℕ) (m : List ℕ) (e : ℕ) → verdict longest m ≡ (noAction, e) → e ≡ actionCode
-unfolding verdict rulesFor actionOf allRead
-action-names-itself longest m e v =
-    fault-code actionCodes (value actionCode m) e refl (of-finding (actionOf (value actionCode m)) e (broken-first (rules longest m) 1 e (numbers-differ longest m) (omega arith) v .0))
+unfolding verdict rulesFor
+action-names-itself longest m e v = action-at-fault (value actionCode m) e (broken-first (rules longest m) 1 e (numbers-differ longest m) (omega arith) v .0)
 
 -- the answer of judging has the verdict's number and element
 pub judged-verdict : (longest : ℕ) (m : List ℕ) → verdictOf (judged longest m) ≡ verdict longest m

@@ -32,7 +32,7 @@ use Rattle.ledger.specs.Header.{rowsInUse, nextIdentifier, capacityIn, headerRi
 use Rattle.ledger.specs.Rows.{statusOf, placeIn, placeOf, isKnown, swapRow, swapStatus}
 use Rattle.ledger.proofs.RightHeader.{RightHeader, right-header, rows-fit, capacity-most}
 use Rattle.submission.specs.Opening.{Limits}
-use Rattle.submission.specs.Submission.{swapOf, actionIn, rowRight, hasWrongRow, swapRules, submissionRules, verdictOn, placeFor, accepted, refused, concluded, submitted}
+use Rattle.submission.specs.Submission.{swapOf, actionIn, rowRight, hasWrongRow, isNotAdmitted, findsFull, findsSpent, swapRules, submissionRules, verdictOn, placeFor, accepted, refused, concluded, submitted}
 
 -- the places of the rules: 3 and 4, then those of the message alone, where the layout and the action come before the action's own, then 14 to 18
 abbrev pub headerPlace : ℕ
@@ -168,15 +168,15 @@ module _ (limits : Limits) (l t m : List ℕ) (a : Action) (passes : (i : ℕ) �
   row-test = not-broken _ (passes rowPlace (lit< tt))
 
   status-test : eqb (nextStatus a (swapStatus l (swapOf m))) noStep ≡ false
-  unfolding submissionRules rulesFor rulesOf swapRules
+  unfolding submissionRules rulesFor rulesOf swapRules isNotAdmitted
   status-test = not-broken _ (passes statusPlace (lit< tt))
 
   room-test : both (isNew a) (eqb (rowsInUse l) (capacityIn l)) ≡ false
-  unfolding submissionRules rulesFor rulesOf swapRules
+  unfolding submissionRules rulesFor rulesOf swapRules findsFull
   room-test = not-broken _ (passes roomPlace (lit< tt))
 
   spent-test : both (writesLine a) (eqb (nextIdentifier l) lastIdentifier) ≡ false
-  unfolding submissionRules rulesFor rulesOf swapRules
+  unfolding submissionRules rulesFor rulesOf swapRules findsSpent
   spent-test = not-broken _ (passes spentPlace (lit< tt))
 
   there : isMissing uti m ≡ false

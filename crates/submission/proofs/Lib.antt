@@ -4,4 +4,6 @@ pub mod Turn
 pub mod Told
 pub mod Pairs
 pub mod Opened
+pub mod Demand1
 pub mod Demand3
+pub mod Counting

@@ -2,6 +2,9 @@ pub mod Verdicts
 pub mod Opening
 pub mod Submission
 pub mod Status
+pub mod Demand1
+pub mod Demand2
 pub mod History
 pub mod Demand3
 pub mod Published
+pub mod Counting

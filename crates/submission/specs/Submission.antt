@@ -44,13 +44,29 @@ rowRight next r = both (within live ported (statusOf r)) (within 1 (next - 1) (i
 unfoldable pub hasWrongRow : List ℕ → List ℕ → Bool
 hasWrongRow l u = both (isKnown l u) (not (rowRight (nextIdentifier l) (swapRow l u)))
 
+-- the swap's status does not admit the action (15)
+unfoldable pub isNotAdmitted : Action → List ℕ → List ℕ → Bool
+isNotAdmitted a l u = eqb (nextStatus a (swapStatus l u)) noStep
+
+-- MODI or REVI has another execution timestamp than the row (16)
+unfoldable pub hasOtherTime : Action → List ℕ → List ℕ → Bool
+hasOtherTime a l m = both (repeatsTime a) (not (sameBytes (value executionTime m) (storedTime (swapRow l (swapOf m)))))
+
+-- NEWT finds rows in use equal to capacity (17)
+unfoldable pub findsFull : Action → List ℕ → Bool
+findsFull a l = both (isNew a) (eqb (rowsInUse l) (capacityIn l))
+
+-- a line is due and the next identifier is 1,000,000,000,000 (18)
+unfoldable pub findsSpent : Action → List ℕ → Bool
+findsSpent a l = both (writesLine a) (eqb (nextIdentifier l) lastIdentifier)
+
 unfoldable pub swapRules : Action → List ℕ → List ℕ → List (ℕ × Finding)
 swapRules a l m =
     (rowWrong, brokenIf (hasWrongRow l (swapOf m)))
-    ∷ (notAdmitted, brokenIf (eqb (nextStatus a (swapStatus l (swapOf m))) noStep))
-    ∷ (otherTime, brokenIf (both (repeatsTime a) (not (sameBytes (value executionTime m) (storedTime (swapRow l (swapOf m)))))))
-    ∷ (ledgerFull, brokenIf (both (isNew a) (eqb (rowsInUse l) (capacityIn l))))
-    ∷ (identifiersSpent, brokenIf (both (writesLine a) (eqb (nextIdentifier l) lastIdentifier)))
+    ∷ (notAdmitted, brokenIf (isNotAdmitted a l (swapOf m)))
+    ∷ (otherTime, brokenIf (hasOtherTime a l m))
+    ∷ (ledgerFull, brokenIf (findsFull a l))
+    ∷ (identifiersSpent, brokenIf (findsSpent a l))
     ∷ []
 
 -- ---- the rules of a submission in checking order

@@ -1,0 +1,92 @@
+-- Identifiers count lines; calls that write nothing. Assumes nothing.
+use Prim.Native.Nat.{ℕ, zero, suc, _+_, _^_, _<_, _≤_}
+use mathlib.Core.Bool.{Bool, true, false, false≢true}
+use mathlib.Core.Path.{_≡_, refl, sym, ap, _∙_}
+use mathlib.Core.List.{List, [], _∷_, _++_}
+use native.Mathlib.Omega.{arith}
+use lib.ListN.{length}
+use Rattle.octets.specs.Choice.{choose}
+use Rattle.actions.specs.Actions.{writesLine}
+use Rattle.ledger.specs.declared.header.Caps.{Caps}
+use Rattle.ledger.specs.Layout.{u32}
+use Rattle.ledger.specs.Header.{nextIdentifier}
+use Rattle.submission.specs.Opening.{Limits, opened}
+use Rattle.submission.specs.Submission.{submitted}
+use Rattle.submission.specs.History.{Call, submit, messageOf, answerTo, ledgerAfter, ledgerAfterAll, publishes, lineOf, tape}
+use Rattle.submission.specs.Demand3.{start}
+use Rattle.submission.specs.Published.{published}
+use Rattle.submission.specs.Counting.{Identifier-with-line, Identifier-counts, Kept-by-calls, Quiet-call}
+use Rattle.submission.proofs.Turn.{Accepts, accepts, refuses, refused-publishes, accepted-publishes}
+use Rattle.submission.proofs.Told.{Holds, kept-holding}
+use Rattle.submission.proofs.Opened.{start-holds}
+
+pub kept-by-calls : Kept-by-calls
+unfolding ledgerAfterAll
+kept-by-calls limits holds keep l [] h = h
+kept-by-calls limits holds keep l (c ∷ cs) h = kept-by-calls limits holds keep (ledgerAfter limits l c) cs (keep l c h)
+
+-- ---- the identifier of a call
+
+-- the identifier is the ledger's next one where a line is written, else 0; and then it is not 0
+record Given (limits : Limits) (l : List ℕ) (c : Call) : Type 0 where
+  is : answerTo limits l c .identifier ≡ choose (publishes limits l c) (nextIdentifier l) 0
+  some : publishes limits l c ≡ true → 1 ≤ nextIdentifier l
+
+given : (limits : Limits) (l : List ℕ) (c : Call) → Given limits l c
+given limits l (submit m t) = by (submitted limits l t m .verdict) refl
+  where
+    by : (v : ℕ) → submitted limits l t m .verdict ≡ v → Given limits l (submit m t)
+    by zero v =
+        let c : Accepts limits l t m = accepts limits l t m v in
+        record { is = ap (λ s. s .identifier) (c .answer) ∙ rw (accepted-publishes limits l t m c); some = λ p. c .fitting .header .positive }
+    by (suc n) v =
+        let none : publishes limits l (submit m t) ≡ false = refused-publishes limits l t m n v in
+        record { is = ap (λ s. s .identifier) (refuses limits l t m n v .answer) ∙ rw none; some = λ p. absurd (false≢true (sym none ∙ p)) }
+
+pub identifier-with-line : Identifier-with-line
+identifier-with-line limits l c = (λ e. by (publishes limits l c) refl e, other (publishes limits l c) refl)
+  where
+    g : Given limits l c
+    g = given limits l c
+
+    by : (b : Bool) → publishes limits l c ≡ b → (answerTo limits l c .identifier ≡ 0 → ⊥) → publishes limits l c ≡ true
+    by true p e = p
+    by false p e = absurd (e (g .is ∙ rw p))
+
+    other : (b : Bool) → publishes limits l c ≡ b → publishes limits l c ≡ true → answerTo limits l c .identifier ≡ 0 → ⊥
+    other false p q e = false≢true (sym p ∙ q)
+    other true p q e =
+        let is : answerTo limits l c .identifier ≡ nextIdentifier l = g .is ∙ rw p in
+        omega (arith, is, e, g .some p)
+
+-- ---- since opening
+
+-- a ledger that holds what so many published messages say
+record Counted (caps : Caps) (l : List ℕ) (n : ℕ) : Type 0 where
+  earlier : List (List ℕ)
+  holds : Holds caps l earlier
+  count : length earlier ≡ n
+
+counted : (limits : Limits) → limits .largest < 256 ^ u32 → (caps : Caps) (cs : List Call) (l : List ℕ) (earlier : List (List ℕ)) → Holds caps l earlier → Counted caps (ledgerAfterAll limits l cs) (length (published limits l cs) + length earlier)
+unfolding ledgerAfterAll published
+counted limits small caps [] l earlier h = record { earlier = earlier; holds = h; count = omega arith }
+counted limits small caps (c ∷ cs) l earlier h =
+    let rest = counted limits small caps cs (ledgerAfter limits l c) _ (kept-holding limits small caps l c earlier h) in
+    record { earlier = rest .earlier; holds = rest .holds; count = rest .count ∙ one (publishes limits l c) (published limits (ledgerAfter limits l c) cs) }
+  where
+    one : (b : Bool) (ms : List (List ℕ)) → length ms + length (choose b (messageOf c ∷ earlier) earlier) ≡ length (choose b (messageOf c ∷ ms) ms) + length earlier
+    one true ms = omega arith
+    one false ms = refl
+
+pub identifier-counts : Identifier-counts
+identifier-counts limits caps l before c small v =
+    let k = counted limits small caps before (start limits caps l) [] (start-holds limits caps l v) in
+    let lines : length (k .earlier) ≡ length (published limits (start limits caps l) before) = k .count ∙ omega arith in
+    given limits (ledgerAfterAll limits (start limits caps l) before) c .is ∙ rw (k .holds .next-is, lines)
+
+-- ---- a call that writes nothing
+
+pub quiet-call : Quiet-call
+unfolding tape ledgerAfterAll lineOf
+quiet-call limits l [] c after same none = rw (none, same)
+quiet-call limits l (b ∷ before) c after same none = ap (λ rest. lineOf limits l b ++ rest) (quiet-call limits (ledgerAfter limits l b) before c after same none)

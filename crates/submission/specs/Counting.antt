@@ -1,0 +1,42 @@
+-- Counting lines: which calls answer an identifier and which one; calls that write nothing.
+use Prim.Native.Nat.{ℕ, suc, _^_, _<_}
+use mathlib.Core.Bool.{true, false}
+use mathlib.Core.Path.{_≡_}
+use mathlib.Core.Logic.{_↔_}
+use mathlib.Core.List.{List, _∷_, _++_}
+use lib.ListN.{length}
+use Rattle.octets.specs.Choice.{choose}
+use Rattle.ledger.specs.declared.header.Caps.{Caps}
+use Rattle.ledger.specs.Layout.{u32}
+use Rattle.submission.specs.Opening.{Limits, opened}
+use Rattle.submission.specs.History.{Call, answerTo, ledgerAfter, ledgerAfterAll, publishes, tape}
+use Rattle.submission.specs.Demand3.{start}
+use Rattle.submission.specs.Published.{published}
+
+-- on any ledger, a call answers an identifier other than 0 exactly where it writes a line
+abbrev pub Identifier-with-line : Type 0
+Identifier-with-line = (limits : Limits) (l : List ℕ) (c : Call) → (answerTo limits l c .identifier ≡ 0 → ⊥) ↔ (publishes limits l c ≡ true)
+
+-- after any calls since opening, the identifier that a line takes is one more than the number of lines published since opening
+abbrev pub Identifier-counts : Type 0
+Identifier-counts =
+    (limits : Limits) (caps : Caps) (l : List ℕ) (before : List Call) (c : Call)
+    → limits .largest < 256 ^ u32
+    → opened limits caps l .verdict ≡ 0
+    → answerTo limits (ledgerAfterAll limits (start limits caps l) before) c .identifier
+    ≡ choose (publishes limits (ledgerAfterAll limits (start limits caps l) before) c) (suc (length (published limits (start limits caps l) before))) 0
+
+-- what holds of a ledger and is kept by each call holds of every ledger that calls lead to
+abbrev pub Kept-by-calls : Type 1
+Kept-by-calls =
+    (limits : Limits) (Holds : List ℕ → Type 0)
+    → ((l : List ℕ) (c : Call) → Holds l → Holds (ledgerAfter limits l c))
+    → (l : List ℕ) (cs : List Call) → Holds l → Holds (ledgerAfterAll limits l cs)
+
+-- on any ledger, a call that writes neither ledger nor line leaves the rest of the tape as it would have been
+abbrev pub Quiet-call : Type 0
+Quiet-call =
+    (limits : Limits) (l : List ℕ) (before : List Call) (c : Call) (after : List Call)
+    → ledgerAfter limits (ledgerAfterAll limits l before) c ≡ ledgerAfterAll limits l before
+    → publishes limits (ledgerAfterAll limits l before) c ≡ false
+    → tape limits l (before ++ (c ∷ after)) ≡ tape limits l (before ++ after)

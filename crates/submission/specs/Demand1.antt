@@ -1,0 +1,60 @@
+-- Demand 1: any bytes in message, ledger or tape buffer get an answer; a refusal has its number, names the element where one is at fault, and changes no
+-- byte of ledger or tape buffer. That any bytes get an answer lies in the definitions: they are functions of lists of any length.
+use Prim.Native.Nat.{ℕ, _≤_}
+use mathlib.Core.Path.{_≡_}
+use mathlib.Core.List.{List}
+use Rattle.actions.specs.declared.Action.{Action}
+use Rattle.actions.specs.declared.Checked.the-variants.{Value}
+use Rattle.actions.specs.Actions.{actionCode}
+use Rattle.elements.specs.Codes.{uti}
+use Rattle.rules.specs.declared.checks.Check.{Check}
+use Rattle.rules.specs.Verdicts.{noAction, formBroken}
+use Rattle.rules.specs.Rules.{atFault}
+use Rattle.rules.proofs.FindingLaws.{LowestAtFault}
+use Rattle.rules.proofs.VerdictLaws.{numberOf}
+use Rattle.ledger.specs.declared.header.Caps.{Caps}
+use Rattle.submission.specs.Verdicts.{ledgerShort, capWrong, ledgerWrong, identifiersSpent}
+use Rattle.submission.specs.Opening.{Limits, Opened, opened}
+use Rattle.submission.specs.Submission.{Submitted, submitted, actionIn}
+use Rattle.submission.specs.Status.{Asked, asked}
+
+-- 7, 8, 9 and 11 name the lowest element code at fault
+pub record NamesLowest (check : Check) (m : List ℕ) (element : ℕ) : Type 0 where
+  pub action : Action
+  pub reads : actionIn m ≡ Value action
+  pub lowest : LowestAtFault (atFault check action m) element
+
+-- the element that a submission names: those four, 6 names 2; elsewhere the element is 0
+pub record Names (s : Submitted) (m : List ℕ) : Type 0 where
+  pub lowest : (check : Check) → s .verdict ≡ numberOf check → NamesLowest check m (s .element)
+  pub action : s .verdict ≡ noAction → s .element ≡ actionCode
+  pub nothing : (s .verdict ≡ noAction → ⊥) → ((check : Check) → s .verdict ≡ numberOf check → ⊥) → s .element ≡ 0
+
+-- a refusal: its number, and nothing is changed or answered beside it
+pub record Refusal (s : Submitted) (l t : List ℕ) : Type 0 where
+  pub least : ledgerWrong ≤ s .verdict
+  pub most : s .verdict ≤ identifiersSpent
+  pub identifier : s .identifier ≡ 0
+  pub ledger : s .ledger ≡ l
+  pub tape : s .tape ≡ t
+
+abbrev pub Submission-answers : Type 0
+Submission-answers =
+    (limits : Limits) (l t m : List ℕ)
+    → Names (submitted limits l t m) m × ((submitted limits l t m .verdict ≡ 0 → ⊥) → Refusal (submitted limits l t m) l t)
+
+-- a refused opening is 1 or 2 and writes nothing
+abbrev pub Opening-answers : Type 0
+Opening-answers =
+    (limits : Limits) (caps : Caps) (l : List ℕ)
+    → (opened limits caps l .verdict ≡ 0 → ⊥)
+    → (ledgerShort ≤ opened limits caps l .verdict) × (opened limits caps l .verdict ≤ capWrong) × (opened limits caps l .ledger ≡ l)
+
+-- the status question: 9 names 1; beside a refusal, status and identifier are 0
+pub record Question (a : Asked) : Type 0 where
+  pub named : a .verdict ≡ formBroken → a .element ≡ uti
+  pub nothing : (a .verdict ≡ formBroken → ⊥) → a .element ≡ 0
+  pub refused : (a .verdict ≡ 0 → ⊥) → (a .status ≡ 0) × (a .identifier ≡ 0)
+
+abbrev pub Question-answers : Type 0
+Question-answers = (limits : Limits) (l u : List ℕ) → Question (asked limits l u)
