@@ -8,6 +8,7 @@ use lib.ListN.{length}
 use lib.Dec.{eqb, ltb, lit<, lit≤}
 use borrow.Author.Tests.{eqb-true, ne-eqb}
 use Rattle.octets.specs.Choice.{choose}
+use Rattle.octets.specs.Part.{splice}
 use Rattle.message.specs.Values.{value}
 use Rattle.actions.specs.declared.Action.{Action}
 use Rattle.actions.specs.declared.Checked.{Checked}
@@ -26,12 +27,12 @@ use Rattle.rules.proofs.JudgeLaws.{neededAt, takenAt, formedAt, dueAt}
 use Rattle.rules.proofs.FindingLaws.{findingAt, unused, distinct, not-verdict, broken-first, LowestAtFault, lowest-broken}
 use Rattle.rules.proofs.VerdictLaws.{numberOf, of-test, action-at-fault}
 use Rattle.ledger.specs.declared.header.Caps.{Caps}
-use Rattle.ledger.specs.Layout.{lineSize}
-use Rattle.ledger.specs.Header.{headerRight}
-use Rattle.submission.specs.Verdicts.{ledgerWrong, identifiersSpent}
+use Rattle.ledger.specs.Layout.{shortestLedger, lineSize}
+use Rattle.ledger.specs.Header.{areCaps, capacityFor, headerRight, newHeader}
+use Rattle.submission.specs.Verdicts.{ledgerShort, capWrong, ledgerWrong, rowWrong, identifiersSpent}
 use Rattle.submission.specs.Opening.{Limits, openingRules, openingVerdict, opened}
 use Rattle.submission.specs.Submission.{Submitted, swapOf, actionIn, hasWrongRow, isNotAdmitted, hasOtherTime, findsFull, findsSpent, swapRules, submissionRules, verdictOn, submitted}
-use Rattle.submission.specs.Status.{statusRules, asked}
+use Rattle.submission.specs.Status.{statusRules, answered, asked}
 use Rattle.submission.specs.Demand1.{NamesLowest, Names, Refusal, Submission-answers, Opening-answers, Question, Question-answers}
 use Rattle.submission.proofs.Acceptance.{actionPlace, messagePlace, numbers-differ}
 use Rattle.submission.proofs.Turn.{Refuses, refuses, accepts, verdict-is}
@@ -136,3 +137,74 @@ module _ (limits : Limits) (l t m : List ℕ) where
   names-action : verdictOn limits l t m .0 ≡ noAction → verdictOn limits l t m .1 ≡ actionCode
   unfolding verdictOn
   names-action v = action-at-fault (value actionCode m) (verdictOn limits l t m .1) (action-broken (actionIn m) (verdictOn limits l t m .1) (ap (λ n. (n, verdictOn limits l t m .1)) v))
+
+  -- ---- what the submission answers
+
+  no-action-zero : (n : ℕ) → n ≡ 0 → n ≡ noAction → ⊥
+  no-action-zero n e f = omega arith
+
+  no-check-zero : (n : ℕ) → n ≡ 0 → (c : Check) → n ≡ numberOf c → ⊥
+  no-check-zero n e Needed f = omega arith
+  no-check-zero n e Taken f = omega arith
+  no-check-zero n e Formed f = omega arith
+  no-check-zero n e Due f = omega arith
+
+  same-element : (n : ℕ) → submitted limits l t m .verdict ≡ n → submitted limits l t m .element ≡ verdictOn limits l t m .1
+  same-element zero v =
+      let zero-is : verdictOn limits l t m .0 ≡ 0 = sym (verdict-is limits l t m) ∙ v in
+      ap (λ s. s .element) (accepts limits l t m v .answer) ∙ sym (answers .plain (no-action-zero _ zero-is) (no-check-zero _ zero-is))
+  same-element (suc n) v = ap (λ s. s .element) (refuses limits l t m n v .answer)
+
+  pub element-is : submitted limits l t m .element ≡ verdictOn limits l t m .1
+  element-is = same-element (submitted limits l t m .verdict) refl
+
+  names : Names (submitted limits l t m) m
+  names =
+      let v : submitted limits l t m .verdict ≡ verdictOn limits l t m .0 = verdict-is limits l t m in
+      record {
+        lowest = λ c e. rw element-is (names-lowest (actionIn m) refl c (sym v ∙ e));
+        action = λ e. element-is ∙ names-action (sym v ∙ e);
+        nothing = λ a b. element-is ∙ answers .plain (λ e. a (v ∙ e)) (λ c e. b c (v ∙ e));
+      }
+
+  refusal : (n : ℕ) → submitted limits l t m .verdict ≡ n → (submitted limits l t m .verdict ≡ 0 → ⊥) → Refusal (submitted limits l t m) l t
+  refusal zero v z = absurd (z v)
+  refusal (suc n) v z =
+      let same : submitted limits l t m .verdict ≡ verdictOn limits l t m .0 = verdict-is limits l t m in
+      let range = answers .range (λ e. z (same ∙ e)) in
+      record {
+        least = rw same (range .0);
+        most = rw same (range .1);
+        identifier = ap (λ s. s .identifier) (refuses limits l t m n v .answer);
+        ledger = ap (λ s. s .ledger) (refuses limits l t m n v .answer);
+        tape = ap (λ s. s .tape) (refuses limits l t m n v .answer);
+      }
+
+pub submission-answers : Submission-answers
+submission-answers limits l t m = (names limits l t m, refusal limits l t m (submitted limits l t m .verdict) refl)
+
+-- ---- opening
+
+pub opening-answers : Opening-answers
+unfolding opened openingVerdict openingRules firstBroken
+opening-answers limits caps l z = by (ltb (length l) shortestLedger) (not (areCaps caps)) z
+  where
+    by : (a b : Bool) → (firstBroken ((ledgerShort, brokenIf a) ∷ (capWrong, brokenIf b) ∷ []) .0 ≡ 0 → ⊥)
+        → (ledgerShort ≤ firstBroken ((ledgerShort, brokenIf a) ∷ (capWrong, brokenIf b) ∷ []) .0)
+        × (firstBroken ((ledgerShort, brokenIf a) ∷ (capWrong, brokenIf b) ∷ []) .0 ≤ capWrong)
+        × (choose (eqb (firstBroken ((ledgerShort, brokenIf a) ∷ (capWrong, brokenIf b) ∷ []) .0) 0) (splice l 0 (newHeader caps (capacityFor (limits .largest) (length l)))) l ≡ l)
+    by true b n = (lit≤ tt, lit≤ tt, refl)
+    by false true n = (lit≤ tt, lit≤ tt, refl)
+    by false false n = absurd (n refl)
+
+-- ---- the status question
+
+pub question-answers : Question-answers
+unfolding asked statusRules firstBroken
+question-answers limits l u = by (not (headerRight (limits .largest) l)) (hasForm uti u) (hasWrongRow l u)
+  where
+    by : (a b c : Bool) → Question (answered (firstBroken ((ledgerWrong, brokenIf a) ∷ (formBroken, choose b passed (broken uti)) ∷ (rowWrong, brokenIf c) ∷ [])) l u)
+    by true b c = record { named = λ e. absurd (omega arith); nothing = λ n. refl; refused = λ n. (refl, refl) }
+    by false false c = record { named = λ e. refl; nothing = λ n. absurd (n refl); refused = λ n. (refl, refl) }
+    by false true true = record { named = λ e. absurd (omega arith); nothing = λ n. refl; refused = λ n. (refl, refl) }
+    by false true false = record { named = λ e. absurd (omega arith); nothing = λ n. refl; refused = λ n. absurd (n refl) }
