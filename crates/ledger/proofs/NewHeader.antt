@@ -1,5 +1,5 @@
 -- What the header that opening writes says. Assumes nothing.
-use Prim.Native.Nat.{ℕ, _+_, _*_, _^_, _<_, _≤_}
+use Prim.Native.Nat.{ℕ, _+_, _^_, _<_, _≤_}
 use mathlib.Core.Bool.{true}
 use mathlib.Core.Path.{_≡_, refl, sym, ap, _∙_}
 use mathlib.Core.List.{List}
@@ -8,13 +8,14 @@ use native.Mathlib.Nat.{sub-zero, zero-add}
 use lib.ListN.{length, getD}
 use lib.Dec.{lit<}
 use Rattle.octets.specs.Part.{part, splice}
+use Rattle.octets.specs.Fields.{noField}
 use Rattle.octets.specs.Number.{fromLe, toLe}
 use Rattle.octets.proofs.ChoiceLaws.{both-first, both-second}
 use Rattle.octets.proofs.PartLaws.{length-splice, part-within}
 use Rattle.octets.proofs.NumberLaws.{length-toLe, fromLe-toLe}
 use Rattle.octets.proofs.FieldLaws.{field-exact}
-use Rattle.octets.proofs.FieldRun.{inPlace, length-bytes, noField, field-placed}
-use Rattle.notional.specs.Masking.{largestCap, isCap}
+use Rattle.octets.proofs.FieldRun.{inPlace, length-bytes, field-inside, field-placed}
+use Rattle.notional.specs.Masking.{isCap}
 use Rattle.notional.proofs.MaskingLaws.{cap-largest}
 use Rattle.ledger.specs.declared.header.Caps.{Caps}
 use Rattle.ledger.specs.Layout.{u32, u64, rowsAt, headerSize, rowSize, shortestLedger}
@@ -42,25 +43,25 @@ module _ (caps : Caps) (capacity : ℕ) (l : List ℕ) (room : headerSize ≤ le
   opened-length = length-splice l (newHeader caps capacity) rowsAt fits
 
   -- a field whose text is as long as it is read back
-  read-back : (k : ℕ) → k < length (headerFields caps capacity) → getD (headerFields caps capacity) k noField .0 + getD (headerFields caps capacity) k noField .1 ≤ headerSize → length (getD (headerFields caps capacity) k noField .2) ≡ getD (headerFields caps capacity) k noField .1
+  read-back : (k : ℕ) → k < length (headerFields caps capacity) → length (getD (headerFields caps capacity) k noField .2) ≡ getD (headerFields caps capacity) k noField .1
       → part (splice l rowsAt (newHeader caps capacity)) (getD (headerFields caps capacity) k noField .0) (getD (headerFields caps capacity) k noField .1) ≡ getD (headerFields caps capacity) k noField .2
   unfolding newHeader
-  read-back k h inside size =
-      (rw zero-add at (part-within l (newHeader caps capacity) rowsAt fits (getD (headerFields caps capacity) k noField .0) (getD (headerFields caps capacity) k noField .1) (omega (arith, length-header caps capacity))))
-      ∙ (rw sub-zero at (field-placed rowsAt (headerFields caps capacity) headerSize k (header-in-place caps capacity) h))
+  read-back k h size =
+      (rw zero-add at (part-within l (newHeader caps capacity) rowsAt fits (getD (headerFields caps capacity) k noField .0) (getD (headerFields caps capacity) k noField .1) (omega (arith, length-header caps capacity, field-inside rowsAt (headerFields caps capacity) headerSize k (header-in-place caps capacity) h))))
+      ∙ (rw sub-zero at (field-placed rowsAt (headerFields caps capacity) headerSize (header-in-place caps capacity) k h))
       ∙ field-exact _ _ size
 
   pub opened-rows : rowsInUse (splice l rowsAt (newHeader caps capacity)) ≡ 0
   unfolding rowsInUse headerFields
-  opened-rows = ap fromLe (read-back 0 (lit< tt) (omega arith) (length-toLe u32 0)) ∙ fromLe-toLe u32 0 (lit< tt)
+  opened-rows = ap fromLe (read-back 0 (lit< tt) (length-toLe u32 0)) ∙ fromLe-toLe u32 0 (lit< tt)
 
   pub opened-first : firstRow (splice l rowsAt (newHeader caps capacity)) ≡ headerSize
   unfolding firstRow headerFields
-  opened-first = ap fromLe (read-back 1 (lit< tt) (omega arith) (length-toLe u32 headerSize)) ∙ fromLe-toLe u32 headerSize (lit< tt)
+  opened-first = ap fromLe (read-back 1 (lit< tt) (length-toLe u32 headerSize)) ∙ fromLe-toLe u32 headerSize (lit< tt)
 
   pub opened-next : nextIdentifier (splice l rowsAt (newHeader caps capacity)) ≡ 1
   unfolding nextIdentifier headerFields
-  opened-next = ap fromLe (read-back 2 (lit< tt) (omega arith) (length-toLe u64 1)) ∙ fromLe-toLe u64 1 (lit< tt)
+  opened-next = ap fromLe (read-back 2 (lit< tt) (length-toLe u64 1)) ∙ fromLe-toLe u64 1 (lit< tt)
 
   cap-back : (cap : ℕ) → isCap cap ≡ true → fromLe (toLe u64 cap) ≡ cap
   cap-back cap e = fromLe-toLe u64 cap (omega (arith, cap-largest cap e))
@@ -73,11 +74,11 @@ module _ (caps : Caps) (capacity : ℕ) (l : List ℕ) (room : headerSize ≤ le
       let eq = both-second (isCap (caps .fx)) _ fx in
       let co = both-second (isCap (caps .eq)) _ eq in
       rw (
-        read-back 3 (lit< tt) (omega arith) (length-toLe u64 (caps .cr)),
-        read-back 4 (lit< tt) (omega arith) (length-toLe u64 (caps .ir)),
-        read-back 5 (lit< tt) (omega arith) (length-toLe u64 (caps .fx)),
-        read-back 6 (lit< tt) (omega arith) (length-toLe u64 (caps .eq)),
-        read-back 7 (lit< tt) (omega arith) (length-toLe u64 (caps .co)),
+        read-back 3 (lit< tt) (length-toLe u64 (caps .cr)),
+        read-back 4 (lit< tt) (length-toLe u64 (caps .ir)),
+        read-back 5 (lit< tt) (length-toLe u64 (caps .fx)),
+        read-back 6 (lit< tt) (length-toLe u64 (caps .eq)),
+        read-back 7 (lit< tt) (length-toLe u64 (caps .co)),
         cap-back (caps .cr) (both-first _ _ e),
         cap-back (caps .ir) (both-first _ _ ir),
         cap-back (caps .fx) (both-first _ _ fx),
@@ -87,11 +88,11 @@ module _ (caps : Caps) (capacity : ℕ) (l : List ℕ) (room : headerSize ≤ le
 
   pub opened-size : sizeOfRows (splice l rowsAt (newHeader caps capacity)) ≡ rowSize
   unfolding sizeOfRows headerFields
-  opened-size = ap fromLe (read-back 8 (lit< tt) (omega arith) (length-toLe u32 rowSize)) ∙ fromLe-toLe u32 rowSize (lit< tt)
+  opened-size = ap fromLe (read-back 8 (lit< tt) (length-toLe u32 rowSize)) ∙ fromLe-toLe u32 rowSize (lit< tt)
 
   pub opened-capacity : capacity < 256 ^ u32 → capacityIn (splice l rowsAt (newHeader caps capacity)) ≡ capacity
   unfolding capacityIn headerFields
-  opened-capacity h = ap fromLe (read-back 9 (lit< tt) (omega arith) (length-toLe u32 capacity)) ∙ fromLe-toLe u32 capacity h
+  opened-capacity h = ap fromLe (read-back 9 (lit< tt) (length-toLe u32 capacity)) ∙ fromLe-toLe u32 capacity h
 
 -- a ledger that opening has written is right
 pub opened-right : (largest : ℕ) (caps : Caps) (l : List ℕ) → largest < 256 ^ u32 → shortestLedger ≤ length l → areCaps caps ≡ true → headerRight largest (splice l rowsAt (newHeader caps (capacityFor largest (length l)))) ≡ true

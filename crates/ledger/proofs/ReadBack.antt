@@ -1,16 +1,16 @@
 -- What the header and the rows say of a ledger after a write. Assumes nothing.
-use Prim.Native.Nat.{ℕ, suc, _+_, _*_, _^_, _<_, _≤_}
+use Prim.Native.Nat.{ℕ, suc, _+_, _^_, _<_, _≤_}
 use mathlib.Core.Bool.{Bool, true, false}
 use mathlib.Core.Path.{_≡_, refl, ap, _∙_}
 use mathlib.Core.List.{List}
 use native.Mathlib.Omega.{arith}
 use native.Mathlib.Decide.{decLt}
-use lib.ListN.{length}
+use lib.ListN.{length, getD}
 use Rattle.octets.specs.Choice.{choose}
-use Rattle.octets.specs.Part.{part, splice}
+use Rattle.octets.specs.Part.{splice}
 use Rattle.octets.specs.Number.{fromLe, toLe}
 use Rattle.octets.proofs.NumberLaws.{length-toLe, fromLe-toLe}
-use Rattle.octets.proofs.PartLaws.{length-splice, part-at, part-before, part-after}
+use Rattle.octets.proofs.PartLaws.{length-splice, part-at, part-before, part-after, byte-apart}
 use Rattle.actions.specs.declared.Action.{Action}
 use Rattle.actions.specs.Actions.{isNew, writesLine}
 use Rattle.ledger.specs.Layout.{u32, u64, rowsAt, nextAt, capsAt, capAt, headerSize, rowSize, rowStart}
@@ -180,3 +180,21 @@ module _ (a : Action) (rows next : ℕ) (l : List ℕ) (room : headerSize ≤ le
       by true false = rows-next l (rows + 1) room
       by false true = next-next l (next + 1) room fits
       by false false = refl
+
+  -- a byte that is neither of rows in use, where those are written, nor of the next identifier, where that is
+  pub raised-byte : (i : ℕ) → (isNew a ≡ true → rowsAt ≤ i → rowsAt + u32 ≤ i) → (writesLine a ≡ true → nextAt ≤ i → nextAt + u64 ≤ i) → getD (headerAfter a rows next l) i 0 ≡ getD l i 0
+  unfolding headerAfter withRows withNext
+  raised-byte i p q = by (isNew a) (writesLine a) p q
+    where
+      counted : (rowsAt ≤ i → rowsAt + u32 ≤ i) → getD (splice l rowsAt (toLe u32 (rows + 1))) i 0 ≡ getD l i 0
+      counted h = byte-apart l (toLe u32 (rows + 1)) rowsAt i (rows-fit l (rows + 1) room) (λ b. omega (arith, length-toLe u32 (rows + 1), h b))
+
+      raised : (d : List ℕ) → headerSize ≤ length d → (nextAt ≤ i → nextAt + u64 ≤ i) → getD (splice d nextAt (toLe u64 (next + 1))) i 0 ≡ getD d i 0
+      raised d r h = byte-apart d (toLe u64 (next + 1)) nextAt i (next-fit d (next + 1) r) (λ b. omega (arith, length-toLe u64 (next + 1), h b))
+
+      by : (b c : Bool) → (b ≡ true → rowsAt ≤ i → rowsAt + u32 ≤ i) → (c ≡ true → nextAt ≤ i → nextAt + u64 ≤ i)
+          → getD (choose c (splice (choose b (splice l rowsAt (toLe u32 (rows + 1))) l) nextAt (toLe u64 (next + 1))) (choose b (splice l rowsAt (toLe u32 (rows + 1))) l)) i 0 ≡ getD l i 0
+      by true true x y = raised _ (omega (arith, rows-length l (rows + 1) room)) (y refl) ∙ counted (x refl)
+      by true false x y = counted (x refl)
+      by false true x y = raised l room (y refl)
+      by false false x y = refl

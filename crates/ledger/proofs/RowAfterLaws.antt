@@ -6,16 +6,15 @@ use mathlib.Core.List.{List, [], _∷_}
 use native.Mathlib.Omega.{arith}
 use lib.ListN.{length}
 use Rattle.octets.specs.Number.{toLe}
-use Rattle.octets.specs.Fields.{written}
+use Rattle.octets.specs.Fields.{written, Placed}
 use Rattle.octets.proofs.NumberLaws.{length-toLe}
 use Rattle.octets.proofs.PartLaws.{length-splice}
-use Rattle.octets.proofs.FieldRun.{inPlace, length-bytes}
+use Rattle.octets.proofs.FieldRun.{inPlace, length-bytes, all-written, field-placed}
 use Rattle.terms.specs.Terms.{termsSize}
 use Rattle.actions.specs.declared.Action.{Action}
 use Rattle.actions.specs.declared.Action.the-variants.{Newt, Modi, Corr, Term, Eror, Revi, Prto}
 use Rattle.ledger.specs.Layout.{u64, statusAt, identifierAt, termsAt, rowSize}
 use Rattle.ledger.specs.Rows.{rowFields, newRow, withStatus, withIdentifier, withTerms, rowAfter}
-use Rattle.octets.proofs.FieldRun.{all-written}
 
 -- the fields follow each other from the row's start to its end
 pub row-in-place : (status : ℕ) (u : List ℕ) (identifier : ℕ) (terms : List ℕ) → inPlace statusAt (rowFields status u identifier terms) rowSize ≡ true
@@ -30,6 +29,11 @@ length-new-row status u identifier terms = omega (arith, length-bytes statusAt (
 pub row-written : (status : ℕ) (u : List ℕ) (identifier : ℕ) (terms d : List ℕ) {last : List ℕ} → length d ≡ rowSize → last ≡ written statusAt (rowFields status u identifier terms) d → last ≡ newRow status u identifier terms
 unfolding newRow
 row-written status u identifier terms d size run = all-written statusAt (rowFields status u identifier terms) rowSize d (row-in-place status u identifier terms) size run
+
+-- each field stands at document 01's offset
+pub row-placed : (status : ℕ) (u : List ℕ) (identifier : ℕ) (terms : List ℕ) → Placed statusAt (rowFields status u identifier terms) (newRow status u identifier terms)
+unfolding newRow
+row-placed status u identifier terms = field-placed statusAt (rowFields status u identifier terms) rowSize (row-in-place status u identifier terms)
 
 pub length-with-status : (status : ℕ) (r : List ℕ) → length r ≡ rowSize → length (withStatus status r) ≡ rowSize
 unfolding withStatus

@@ -1,15 +1,15 @@
 -- What a row says after an action has written it. Assumes nothing.
-use Prim.Native.Nat.{ℕ, zero, suc, _+_, _^_, _<_, _≤_}
+use Prim.Native.Nat.{ℕ, _+_, _^_, _<_, _≤_}
 use mathlib.Core.Bool.{Bool, true, false, false≢true}
 use mathlib.Core.Path.{_≡_, refl, sym, ap, _∙_}
 use mathlib.Core.Logic.{_↔_}
 use mathlib.Core.List.{List, [], _∷_}
 use native.Mathlib.Omega.{arith}
-use lib.ListN.{length, take, drop, getD, replicate}
+use lib.ListN.{length, take, drop, getD}
 use lib.Seq.{take-at, take-take}
 use lib.Dec.{eqb}
 use borrow.Author.Tests.{eqb-true, eq-eqb}
-use Rattle.octets.specs.Choice.{choose, both}
+use Rattle.octets.specs.Choice.{choose}
 use Rattle.octets.specs.Part.{part, splice}
 use Rattle.octets.specs.Same.{sameBytes}
 use Rattle.octets.specs.Number.{fromLe, toLe}
@@ -20,14 +20,13 @@ use Rattle.octets.proofs.PartLaws.{part-at, part-before, part-after, same-byte}
 use Rattle.octets.proofs.SameLaws.{same-refl, same-true}
 use Rattle.octets.proofs.NumberLaws.{length-toLe, fromLe-toLe}
 use Rattle.octets.proofs.FieldLaws.{field-fits, field-exact}
-use Rattle.octets.proofs.FieldRun.{field-placed}
 use Rattle.terms.specs.Terms.{termsSize}
 use Rattle.actions.specs.declared.Action.{Action}
 use Rattle.actions.specs.declared.Action.the-variants.{Newt, Modi, Corr, Term, Eror, Revi, Prto}
 use Rattle.actions.specs.Actions.{isFull, isNew, writesLine}
 use Rattle.ledger.specs.Layout.{u64, statusAt, lengthAt, utiAt, utiSize, identifierAt, termsAt, tailAt, tailSize, rowSize}
 use Rattle.ledger.specs.Rows.{statusOf, identifierOf, storedTerms, holdsUti, rowFields, newRow, withStatus, withIdentifier, withTerms, rowAfter}
-use Rattle.ledger.proofs.RowAfterLaws.{row-in-place, length-with-status, length-with-identifier}
+use Rattle.ledger.proofs.RowAfterLaws.{row-placed, length-with-status, length-with-identifier}
 
 -- a field that is long enough opens with its text
 opens : (n : ℕ) (u : List ℕ) → length u ≤ n → take (length u) (field n u) ≡ u
@@ -98,12 +97,12 @@ module _ (status : ℕ) (u : List ℕ) (identifier : ℕ) (terms : List ℕ) whe
   new-identifier : identifier < 256 ^ u64 → identifierOf (newRow status u identifier terms) ≡ identifier
   unfolding identifierOf newRow rowFields
   new-identifier b =
-      ap fromLe (field-placed statusAt (rowFields status u identifier terms) rowSize 3 (row-in-place status u identifier terms) (omega arith) ∙ field-exact u64 (toLe u64 identifier) (length-toLe u64 identifier))
+      ap fromLe (row-placed status u identifier terms 3 (omega arith) ∙ field-exact u64 (toLe u64 identifier) (length-toLe u64 identifier))
       ∙ fromLe-toLe u64 identifier b
 
   new-terms : length terms ≡ termsSize → storedTerms (newRow status u identifier terms) ≡ terms
   unfolding storedTerms newRow rowFields
-  new-terms long = field-placed statusAt (rowFields status u identifier terms) rowSize 4 (row-in-place status u identifier terms) (omega arith) ∙ field-exact termsSize terms long
+  new-terms long = row-placed status u identifier terms 4 (omega arith) ∙ field-exact termsSize terms long
 
   new-length : getD (newRow status u identifier terms) lengthAt 0 ≡ length u
   unfolding newRow rowFields bytesOf field
@@ -113,7 +112,7 @@ module _ (status : ℕ) (u : List ℕ) (identifier : ℕ) (terms : List ℕ) whe
   unfolding newRow rowFields
   new-uti h =
       sym (take-take (length u) utiSize (drop utiAt (newRow status u identifier terms)) h)
-      ∙ ap (take (length u)) (field-placed statusAt (rowFields status u identifier terms) rowSize 2 (row-in-place status u identifier terms) (omega arith))
+      ∙ ap (take (length u)) (row-placed status u identifier terms 2 (omega arith))
       ∙ opens utiSize u h
 
   -- it holds this UTI and no other
@@ -122,8 +121,7 @@ module _ (status : ℕ) (u : List ℕ) (identifier : ℕ) (terms : List ℕ) whe
   new-holds h v =
       let r : List ℕ = newRow status u identifier terms in
       let long : Bool = eqb (getD r lengthAt 0) (length v) in
-      let same : Bool = sameBytes (part r utiAt (length v)) v in
-      (
+      let same : Bool = sameBytes (part r utiAt (length v)) v in (
         λ e.
             let n : length u ≡ length v = sym new-length ∙ eqb-true _ _ (both-first long same e) in
             sym (new-uti h) ∙ rw n (same-true _ _ (both-second long same e)),

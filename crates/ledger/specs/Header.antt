@@ -1,6 +1,5 @@
 -- Document 01, 'The ledger': the header, and when it is right (verdict 3).
 use Prim.Native.Nat.{ℕ, _-_, _/_, min}
-use Prim.Native.String.{String}
 use mathlib.Core.Bool.{Bool}
 use mathlib.Core.List.{List, [], _∷_}
 use lib.ListN.{length}

@@ -10,12 +10,12 @@ use lib.ListN.{length, getD, take, drop, length-append}
 use lib.Seq.{take-at, drop-at, drop-drop}
 use lib.Dec.{eqb}
 use Rattle.octets.specs.Choice.{both}
-use Rattle.octets.specs.Part.{part, splice}
+use Rattle.octets.specs.Part.{splice}
 use Rattle.octets.specs.Field.{field}
 use Rattle.octets.proofs.ChoiceLaws.{both-first, both-second}
 use Rattle.octets.proofs.PartLaws.{length-splice, splice-splice, splice-none, splice-all}
 use Rattle.octets.proofs.FieldLaws.{length-field, field-exact}
-use Rattle.octets.specs.Fields.{FieldAt, bytesOf, written}
+use Rattle.octets.specs.Fields.{FieldAt, bytesOf, written, noField, Placed}
 
 -- ---- a run of writes
 
@@ -92,21 +92,18 @@ all-written start fs end d ok size run =
 
 -- ---- each field stands at its offset
 
-abbrev pub noField : FieldAt
-noField = (0, 0, [])
-
 not-before : (at : ℕ) (fs : List FieldAt) (end k : ℕ) → inPlace at fs end ≡ true → k < length fs → at ≤ getD fs k noField .0
 not-before at [] end k ok h = absurd (not-suc-le-zero h)
 not-before at (f ∷ fs) end zero ok h = omega (arith, head-place at f fs end ok)
 not-before at (f ∷ fs) end (suc k) ok h = omega (arith, not-before (at + f .1) fs end k (tail-place at f fs end ok) (le-of-suc-le-suc h))
 
-pub field-placed : (at : ℕ) (fs : List FieldAt) (end k : ℕ) → inPlace at fs end ≡ true → k < length fs → part (bytesOf fs) (getD fs k noField .0 - at) (getD fs k noField .1) ≡ field (getD fs k noField .1) (getD fs k noField .2)
+pub field-placed : (at : ℕ) (fs : List FieldAt) (end : ℕ) → inPlace at fs end ≡ true → Placed at fs (bytesOf fs)
 unfolding bytesOf
-field-placed at [] end k ok h = absurd (not-suc-le-zero h)
-field-placed at (f ∷ fs) end zero ok h =
+field-placed at [] end ok k h = absurd (not-suc-le-zero h)
+field-placed at (f ∷ fs) end ok zero h =
     let none : f .0 - at ≡ 0 = omega (arith, head-place at f fs end ok) in
     rw none (take-at (field (f .1) (f .2)) (bytesOf fs) (f .1) (length-field (f .1) (f .2)))
-field-placed at (f ∷ fs) end (suc k) ok h =
+field-placed at (f ∷ fs) end ok (suc k) h =
     let after = tail-place at f fs end ok in
     let l = le-of-suc-le-suc h in
     let o : ℕ = getD fs k noField .0 in
@@ -115,4 +112,10 @@ field-placed at (f ∷ fs) end (suc k) ok h =
     ap (λ (j : ℕ). drop j (field (f .1) (f .2) ++ bytesOf fs)) far
     ∙ sym (drop-drop (o - (at + f .1)) (f .1) (field (f .1) (f .2) ++ bytesOf fs))
     ∙ ap (drop (o - (at + f .1))) (drop-at (field (f .1) (f .2)) (bytesOf fs) (f .1) (length-field (f .1) (f .2))) in
-    ap (take (getD fs k noField .1)) past ∙ field-placed (at + f .1) fs end k after l
+    ap (take (getD fs k noField .1)) past ∙ field-placed (at + f .1) fs end after k l
+
+-- and ends before the layout does
+pub field-inside : (at : ℕ) (fs : List FieldAt) (end k : ℕ) → inPlace at fs end ≡ true → k < length fs → getD fs k noField .0 + getD fs k noField .1 ≤ end
+field-inside at [] end k ok h = absurd (not-suc-le-zero h)
+field-inside at (f ∷ fs) end zero ok h = omega (arith, head-place at f fs end ok, length-bytes (at + f .1) fs end (tail-place at f fs end ok))
+field-inside at (f ∷ fs) end (suc k) ok h = field-inside (at + f .1) fs end k (tail-place at f fs end ok) (le-of-suc-le-suc h)

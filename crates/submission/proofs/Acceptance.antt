@@ -1,38 +1,36 @@
 -- What the verdict 0 tells of ledger, tape buffer and message. Assumes nothing.
-use Prim.Native.Nat.{ℕ, suc, _+_, _*_, _<_, _≤_}
+use Prim.Native.Nat.{ℕ, suc, _+_, _<_, _≤_}
 use mathlib.Core.Bool.{Bool, true, false, not, false≢true}
-use mathlib.Core.Path.{_≡_, refl, sym, ap, _∙_, subst}
-use mathlib.Core.List.{List, [], _∷_}
+use mathlib.Core.Path.{_≡_, refl, sym, ap, _∙_}
+use mathlib.Core.List.{List}
 use native.Mathlib.Omega.{arith}
-use lib.ListN.{length}
+use lib.ListN.{length, length-append, List·getD-append}
 use lib.Dec.{eqb, leb, ltb, lit<, lit≤}
 use borrow.Author.Tests.{eqb-true, eqb-false, ne-eqb, leb-true, ltb-true, ltb-false}
 use Rattle.octets.specs.Choice.{choose, both}
-use Rattle.octets.specs.Search.{all}
 use Rattle.octets.proofs.ChoiceLaws.{both-first, both-second}
 use Rattle.values.specs.Limits.{utiLeast, utiMost}
-use Rattle.values.specs.Run.{within, inClass, isUti, runOf}
+use Rattle.values.specs.Run.{within, runOf}
 use Rattle.actions.specs.declared.Action.{Action}
 use Rattle.actions.specs.declared.Action.the-variants.{Newt, Modi, Corr, Term, Eror, Revi, Prto}
 use Rattle.actions.specs.declared.Checked.{Checked}
 use Rattle.actions.specs.declared.Checked.the-variants.{Fault, Value}
 use Rattle.actions.specs.Actions.{isNew, writesLine}
 use Rattle.actions.specs.Statuses.{live, ported, unknown, noStep, nextStatus}
-use Rattle.message.specs.Values.{value}
 use Rattle.elements.specs.Codes.{uti}
 use Rattle.elements.specs.Forms.{formOf, hasForm}
 use Rattle.elements.specs.Conditions.{isMissing}
 use Rattle.rules.specs.declared.checks.Check.the-variants.{Needed, Formed}
-use Rattle.rules.specs.Findings.{Finding, passed, broken, brokenIf, firstBroken}
+use Rattle.rules.specs.Findings.{passed, broken, brokenIf, firstBroken}
 use Rattle.rules.specs.Rules.{rulesFor, rulesOf, atFault}
 use Rattle.rules.proofs.JudgeLaws.{neededAt, formedAt}
-use Rattle.rules.proofs.FindingLaws.{numberAt, findingAt, unused, distinct, all-passed, lowest-passed}
-use Rattle.ledger.specs.Layout.{utiSize, rowStart, lineSize, lastIdentifier}
+use Rattle.rules.proofs.FindingLaws.{noRule, findingAt, unused, distinct, all-passed, lowest-passed}
+use Rattle.ledger.specs.Layout.{utiSize, lineSize, lastIdentifier}
 use Rattle.ledger.specs.Header.{rowsInUse, nextIdentifier, capacityIn, headerRight}
-use Rattle.ledger.specs.Rows.{statusOf, placeIn, placeOf, isKnown, swapRow, swapStatus}
-use Rattle.ledger.proofs.RightHeader.{RightHeader, right-header, rows-fit, capacity-most}
+use Rattle.ledger.specs.Rows.{statusOf, placeOf, isKnown, swapRow, swapStatus}
+use Rattle.ledger.proofs.RightHeader.{RightHeader, right-header}
 use Rattle.submission.specs.Opening.{Limits}
-use Rattle.submission.specs.Submission.{swapOf, actionIn, rowRight, hasWrongRow, isNotAdmitted, findsFull, findsSpent, swapRules, submissionRules, verdictOn, placeFor, accepted, refused, concluded, submitted}
+use Rattle.submission.specs.Submission.{swapOf, actionIn, rowRight, hasWrongRow, isNotAdmitted, hasOtherTime, findsFull, findsSpent, swapRules, submissionRules, verdictOn, placeFor, accepted, refused, concluded, submitted}
 
 -- the places of the rules: 3 and 4, then those of the message alone, where the layout and the action come before the action's own, then 14 to 18
 abbrev pub headerPlace : ℕ
@@ -155,27 +153,38 @@ pub record Fits (limits : Limits) (l t m : List ℕ) (a : Action) : Type 0 where
   pub spare : writesLine a ≡ true → nextIdentifier l < lastIdentifier
 
 module _ (limits : Limits) (l t m : List ℕ) (a : Action) (passes : (i : ℕ) → i < length (submissionRules limits (Value a) l t m) → findingAt (submissionRules limits (Value a) l t m) i ≡ passed) where
-  header-test : headerRight (limits .largest) l ≡ true
+  pub header-test : headerRight (limits .largest) l ≡ true
   unfolding submissionRules rulesFor rulesOf swapRules
   header-test = not-not _ (not-broken _ (passes headerPlace (lit< tt)))
 
-  tape-test : ltb (length t) lineSize ≡ false
+  pub tape-test : ltb (length t) lineSize ≡ false
   unfolding submissionRules rulesFor rulesOf swapRules
   tape-test = not-broken _ (passes tapePlace (lit< tt))
 
-  row-test : hasWrongRow l (swapOf m) ≡ false
+  pub row-test : hasWrongRow l (swapOf m) ≡ false
   unfolding submissionRules rulesFor rulesOf swapRules
   row-test = not-broken _ (passes rowPlace (lit< tt))
 
-  status-test : eqb (nextStatus a (swapStatus l (swapOf m))) noStep ≡ false
+  pub status-test : eqb (nextStatus a (swapStatus l (swapOf m))) noStep ≡ false
   unfolding submissionRules rulesFor rulesOf swapRules isNotAdmitted
   status-test = not-broken _ (passes statusPlace (lit< tt))
 
-  room-test : both (isNew a) (eqb (rowsInUse l) (capacityIn l)) ≡ false
+  pub time-test : hasOtherTime a l m ≡ false
+  unfolding submissionRules rulesFor rulesOf swapRules
+  time-test = not-broken _ (passes timePlace (lit< tt))
+
+  -- the rules of the message alone
+  pub message-passes : (i : ℕ) → i < length (rulesFor (Value a) (limits .longest) m) → findingAt (rulesFor (Value a) (limits .longest) m) i ≡ passed
+  unfolding submissionRules
+  message-passes i h =
+      sym (ap (λ r. r .1) (List·getD-append (rulesFor (Value a) (limits .longest) m) (swapRules a l m) noRule i h))
+      ∙ passes (suc (suc i)) (omega (arith, h, length-append (rulesFor (Value a) (limits .longest) m) (swapRules a l m)))
+
+  pub room-test : both (isNew a) (eqb (rowsInUse l) (capacityIn l)) ≡ false
   unfolding submissionRules rulesFor rulesOf swapRules findsFull
   room-test = not-broken _ (passes roomPlace (lit< tt))
 
-  spent-test : both (writesLine a) (eqb (nextIdentifier l) lastIdentifier) ≡ false
+  pub spent-test : both (writesLine a) (eqb (nextIdentifier l) lastIdentifier) ≡ false
   unfolding submissionRules rulesFor rulesOf swapRules findsSpent
   spent-test = not-broken _ (passes spentPlace (lit< tt))
 

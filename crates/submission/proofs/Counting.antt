@@ -6,11 +6,10 @@ use mathlib.Core.List.{List, [], _∷_, _++_}
 use native.Mathlib.Omega.{arith}
 use lib.ListN.{length}
 use Rattle.octets.specs.Choice.{choose}
-use Rattle.actions.specs.Actions.{writesLine}
 use Rattle.ledger.specs.declared.header.Caps.{Caps}
 use Rattle.ledger.specs.Layout.{u32}
 use Rattle.ledger.specs.Header.{nextIdentifier}
-use Rattle.submission.specs.Opening.{Limits, opened}
+use Rattle.submission.specs.Opening.{Limits}
 use Rattle.submission.specs.Submission.{submitted}
 use Rattle.submission.specs.History.{Call, submit, messageOf, answerTo, ledgerAfter, ledgerAfterAll, publishes, lineOf, tape}
 use Rattle.submission.specs.Demand3.{start}

@@ -2,11 +2,10 @@
 use Prim.Native.Nat.{ℕ, zero, suc, _<_, _≤_}
 use mathlib.Core.Bool.{Bool, true, false, not}
 use mathlib.Core.Path.{_≡_, refl, sym, ap, _∙_}
-use mathlib.Core.List.{List, [], _∷_, _++_}
+use mathlib.Core.List.{List, [], _∷_}
 use native.Mathlib.Omega.{arith}
 use lib.ListN.{length}
 use lib.Dec.{eqb, ltb, lit<, lit≤}
-use borrow.Author.Tests.{eqb-true, ne-eqb}
 use Rattle.octets.specs.Choice.{choose}
 use Rattle.octets.specs.Part.{splice}
 use Rattle.message.specs.Values.{value}
@@ -24,18 +23,17 @@ use Rattle.rules.specs.Verdicts.{noAction, formBroken}
 use Rattle.rules.specs.Findings.{Finding, passed, broken, brokenIf, lowest, orElse, firstBroken}
 use Rattle.rules.specs.Rules.{finding, atFault, priceTooLong, outOfOrder, rulesFor, rulesOf}
 use Rattle.rules.proofs.JudgeLaws.{neededAt, takenAt, formedAt, dueAt}
-use Rattle.rules.proofs.FindingLaws.{findingAt, unused, distinct, not-verdict, broken-first, LowestAtFault, lowest-broken}
+use Rattle.rules.proofs.FindingLaws.{unused, not-verdict, broken-first, lowest-broken}
 use Rattle.rules.proofs.VerdictLaws.{numberOf, of-test, action-at-fault}
-use Rattle.ledger.specs.declared.header.Caps.{Caps}
 use Rattle.ledger.specs.Layout.{shortestLedger, lineSize}
 use Rattle.ledger.specs.Header.{areCaps, capacityFor, headerRight, newHeader}
 use Rattle.submission.specs.Verdicts.{ledgerShort, capWrong, ledgerWrong, rowWrong, identifiersSpent}
 use Rattle.submission.specs.Opening.{Limits, openingRules, openingVerdict, opened}
-use Rattle.submission.specs.Submission.{Submitted, swapOf, actionIn, hasWrongRow, isNotAdmitted, hasOtherTime, findsFull, findsSpent, swapRules, submissionRules, verdictOn, submitted}
+use Rattle.submission.specs.Submission.{swapOf, actionIn, hasWrongRow, isNotAdmitted, hasOtherTime, findsFull, findsSpent, swapRules, submissionRules, verdictOn, submitted}
 use Rattle.submission.specs.Status.{statusRules, answered, asked}
 use Rattle.submission.specs.Demand1.{NamesLowest, Names, Refusal, Submission-answers, Opening-answers, Question, Question-answers}
 use Rattle.submission.proofs.Acceptance.{actionPlace, messagePlace, numbers-differ}
-use Rattle.submission.proofs.Turn.{Refuses, refuses, accepts, verdict-is}
+use Rattle.submission.proofs.Turn.{refuses, accepts, verdict-is}
 
 -- ---- what holds of verdict and element, rule by rule
 
@@ -76,30 +74,68 @@ rules-answer (r ∷ rs) p = by (r .1) refl (rules-answer rs (p .1))
 module _ (limits : Limits) (l t m : List ℕ) where
   all-rules : (r : Checked) → Rules (submissionRules limits r l t m)
   unfolding submissionRules rulesFor rulesOf swapRules Rules
-  all-rules (Fault code) =
-      (by-test _ (not (headerRight (limits .largest) l)) (lit≤ tt) (lit≤ tt),
-      (by-test _ (ltb (length t) lineSize) (lit≤ tt) (lit≤ tt),
-      (by-test _ (not (hasLayout (limits .longest) m)) (lit≤ tt) (lit≤ tt),
-      (by-action _,
-      tt))))
-  all-rules (Value a) =
-      (by-test _ (not (headerRight (limits .largest) l)) (lit≤ tt) (lit≤ tt),
-      (by-test _ (ltb (length t) lineSize) (lit≤ tt) (lit≤ tt),
-      (by-test _ (not (hasLayout (limits .longest) m)) (lit≤ tt) (lit≤ tt),
-      (by-action _,
-      (by-check Needed _ (lit≤ tt) (lit≤ tt),
-      (by-check Taken _ (lit≤ tt) (lit≤ tt),
-      (by-check Formed _ (lit≤ tt) (lit≤ tt),
-      (by-test _ (not (pairAllowed a (value eventType m))) (lit≤ tt) (lit≤ tt),
-      (by-check Due _ (lit≤ tt) (lit≤ tt),
-      (by-test _ (priceTooLong m) (lit≤ tt) (lit≤ tt),
-      (by-test _ (outOfOrder a m) (lit≤ tt) (lit≤ tt),
-      (by-test _ (hasWrongRow l (swapOf m)) (lit≤ tt) (lit≤ tt),
-      (by-test _ (isNotAdmitted a l (swapOf m)) (lit≤ tt) (lit≤ tt),
-      (by-test _ (hasOtherTime a l m) (lit≤ tt) (lit≤ tt),
-      (by-test _ (findsFull a l) (lit≤ tt) (lit≤ tt),
-      (by-test _ (findsSpent a l) (lit≤ tt) (lit≤ tt),
-      tt))))))))))))))))
+  all-rules (Fault code) = (
+    by-test _ (not (headerRight (limits .largest) l)) (lit≤ tt) (lit≤ tt),
+    (
+      by-test _ (ltb (length t) lineSize) (lit≤ tt) (lit≤ tt),
+      (
+        by-test _ (not (hasLayout (limits .longest) m)) (lit≤ tt) (lit≤ tt),
+        (
+          by-action _,
+          tt,
+        ),
+      ),
+    ),
+  )
+  all-rules (Value a) = (
+    by-test _ (not (headerRight (limits .largest) l)) (lit≤ tt) (lit≤ tt),
+    (
+      by-test _ (ltb (length t) lineSize) (lit≤ tt) (lit≤ tt),
+      (
+        by-test _ (not (hasLayout (limits .longest) m)) (lit≤ tt) (lit≤ tt),
+        (
+          by-action _,
+          (
+            by-check Needed _ (lit≤ tt) (lit≤ tt),
+            (
+              by-check Taken _ (lit≤ tt) (lit≤ tt),
+              (
+                by-check Formed _ (lit≤ tt) (lit≤ tt),
+                (
+                  by-test _ (not (pairAllowed a (value eventType m))) (lit≤ tt) (lit≤ tt),
+                  (
+                    by-check Due _ (lit≤ tt) (lit≤ tt),
+                    (
+                      by-test _ (priceTooLong m) (lit≤ tt) (lit≤ tt),
+                      (
+                        by-test _ (outOfOrder a m) (lit≤ tt) (lit≤ tt),
+                        (
+                          by-test _ (hasWrongRow l (swapOf m)) (lit≤ tt) (lit≤ tt),
+                          (
+                            by-test _ (isNotAdmitted a l (swapOf m)) (lit≤ tt) (lit≤ tt),
+                            (
+                              by-test _ (hasOtherTime a l m) (lit≤ tt) (lit≤ tt),
+                              (
+                                by-test _ (findsFull a l) (lit≤ tt) (lit≤ tt),
+                                (
+                                  by-test _ (findsSpent a l) (lit≤ tt) (lit≤ tt),
+                                  tt,
+                                ),
+                              ),
+                            ),
+                          ),
+                        ),
+                      ),
+                    ),
+                  ),
+                ),
+              ),
+            ),
+          ),
+        ),
+      ),
+    ),
+  )
 
   answers : Answers (verdictOn limits l t m)
   unfolding verdictOn

@@ -1,5 +1,5 @@
 -- Demand 3: document 01's premises on messages and caps imply equal tapes. Assumes nothing.
-use mathlib.Core.Path.{_≡_, sym, _∙_}
+use mathlib.Core.Path.{sym, _∙_}
 use mathlib.Core.List.{[]}
 use Rattle.submission.specs.Demand3.{start, Same-tapes}
 use Rattle.submission.specs.Published.{Tape-told}

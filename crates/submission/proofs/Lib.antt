@@ -5,5 +5,6 @@ pub mod Told
 pub mod Pairs
 pub mod Opened
 pub mod Demand1
+pub mod Demand2
 pub mod Demand3
 pub mod Counting

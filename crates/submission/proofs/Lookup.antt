@@ -1,5 +1,5 @@
 -- The ledger after an accepted message: its header's numbers, the row of the message's swap, and that of any other. Assumes nothing.
-use Prim.Native.Nat.{ℕ, zero, suc, _+_, _*_, _^_, _<_, _≤_}
+use Prim.Native.Nat.{ℕ, suc, _+_, _^_, _<_, _≤_}
 use mathlib.Core.Bool.{Bool, true, false, false≢true}
 use mathlib.Core.Path.{_≡_, refl, sym, ap, _∙_, subst}
 use mathlib.Core.Logic.{_↔_}
@@ -27,9 +27,10 @@ use Rattle.actions.specs.Statuses.{nextStatus}
 use Rattle.message.specs.Values.{value}
 use Rattle.elements.specs.Codes.{assetClass}
 use Rattle.ledger.specs.declared.header.Caps.{Caps}
-use Rattle.ledger.specs.Layout.{u32, u64, lengthAt, utiAt, utiSize, termsAt, headerSize, rowSize, rowStart, lastIdentifier}
+use Rattle.ledger.specs.Layout.{u32, lengthAt, utiAt, utiSize, termsAt, headerSize, rowSize, rowStart}
 use Rattle.ledger.specs.Header.{rowsInUse, nextIdentifier, capacityIn, capsIn, capFor}
-use Rattle.ledger.specs.Rows.{rowAt, storedTerms, holdsUti, placeIn, placeOf, isKnown, swapRow, swapStatus, newRow, rowAfter, headerAfter}
+use Rattle.ledger.specs.Rows.{rowAt, storedTerms, holdsUti, placeIn, placeOf, isKnown, swapRow, swapStatus, newRow, rowAfter}
+use Rattle.ledger.proofs.RowLaws as row
 use Rattle.ledger.proofs.RightHeader.{rows-fit, capacity-most}
 use Rattle.ledger.proofs.RowAfterLaws.{length-row-after}
 use Rattle.ledger.proofs.RowFields.{new-holds, after-holds}
@@ -92,9 +93,8 @@ module _ (limits : Limits) (l t m : List ℕ) (a : Action) (f : Fits limits l t 
   room : (j : ℕ) → j < capacityIn l → rowStart (suc j) ≤ length l
   room j h = omega (arith, rows-fit (limits .largest) l (f .header))
 
-  pub length-row : (j : ℕ) → j < capacityIn l → length (rowAt l j) ≡ rowSize
-  unfolding rowAt
-  length-row j h = length-part l (rowStart j) rowSize (omega (arith, room j h))
+  pub row-whole : (j : ℕ) → j < capacityIn l → length (rowAt l j) ≡ rowSize
+  row-whole j h = row.length-row l j (omega (arith, room j h))
 
   pub known-place : isKnown l (swapOf m) ≡ true → placeOf l (swapOf m) < capacityIn l
   unfolding isKnown
@@ -106,11 +106,11 @@ module _ (limits : Limits) (l t m : List ℕ) (a : Action) (f : Fits limits l t 
     where
       by : (b : Bool) → isFull a ≡ b → length (choose b (maskedTerms (capsIn l) m) (storedTerms (swapRow l (swapOf m)))) ≡ termsSize
       by true e = length-masked (capsIn l) m
-      by false e = length-stored (swapRow l (swapOf m)) (length-row (placeOf l (swapOf m)) (known-place (f .known (old-unless-full a e))))
+      by false e = length-stored (swapRow l (swapOf m)) (row-whole (placeOf l (swapOf m)) (known-place (f .known (old-unless-full a e))))
 
   pub length-after : length (rowFor a l m) ≡ rowSize
   unfolding rowFor
-  length-after = length-row-after a _ (swapOf m) (nextIdentifier l) (termsFor a l m) (rowAt l (placeFor a l m)) length-shown (length-row (placeFor a l m) (f .place))
+  length-after = length-row-after a _ (swapOf m) (nextIdentifier l) (termsFor a l m) (rowAt l (placeFor a l m)) length-shown (row-whole (placeFor a l m) (f .place))
 
   abbrev stored : List ℕ
   stored = splice l (rowStart (placeFor a l m)) (rowFor a l m)
@@ -169,7 +169,7 @@ module _ (limits : Limits) (l t m : List ℕ) (a : Action) (f : Fits limits l t 
       by : (b : Bool) → eqb j (placeFor a l m) ≡ b → holdsUti v (rowAt (ledgerFor a l m) j) ≡ holdsUti v (rowAt l j)
       by true g =
           let at : j ≡ placeFor a l m = eqb-true _ _ g in
-          rw (at) (ap (holdsUti v) row-written ∙ after-holds a _ (swapOf m) (nextIdentifier l) (termsFor a l m) (rowAt l (placeFor a l m)) length-shown (length-row (placeFor a l m) (f .place)) e v h)
+          rw (at) (ap (holdsUti v) row-written ∙ after-holds a _ (swapOf m) (nextIdentifier l) (termsFor a l m) (rowAt l (placeFor a l m)) length-shown (row-whole (placeFor a l m) (f .place)) e v h)
       by false g = ap (holdsUti v) (row-kept j (eqb-false _ _ g))
 
   old-places : isNew a ≡ false → (v : List ℕ) → length v ≤ utiSize → placeOf (ledgerFor a l m) v ≡ placeOf l v

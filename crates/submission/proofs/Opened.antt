@@ -1,11 +1,11 @@
 -- A ledger that opening answered with 0. Assumes nothing.
-use Prim.Native.Nat.{ℕ, _+_, _*_, _^_, _<_, _≤_}
-use mathlib.Core.Bool.{Bool, true, false, false≢true}
-use mathlib.Core.Path.{_≡_, refl, sym, ap, _∙_}
+use Prim.Native.Nat.{ℕ, _^_, _<_, _≤_}
+use mathlib.Core.Bool.{true}
+use mathlib.Core.Path.{_≡_, refl, ap, _∙_}
 use mathlib.Core.List.{List, []}
 use native.Mathlib.Omega.{arith}
 use lib.ListN.{length}
-use lib.Dec.{ltb, lit<}
+use lib.Dec.{lit<}
 use borrow.Author.Tests.{ltb-true, ltb-false, eq-eqb}
 use Rattle.octets.specs.Part.{splice}
 use Rattle.rules.specs.Findings.{passed}

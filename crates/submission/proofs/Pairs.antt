@@ -1,18 +1,17 @@
 -- Two histories whose premises hold publish messages that tell the same tape. Assumes nothing.
-use Prim.Native.Nat.{ℕ, zero, suc, _<_}
+use Prim.Native.Nat.{ℕ, suc, _<_}
 use mathlib.Core.Bool.{Bool, true, false}
 use mathlib.Core.Path.{_≡_, refl, sym, ap, ap₂, _∙_}
 use mathlib.Core.Logic.{_↔_}
 use mathlib.Core.List.{List, [], _∷_, _++_, map}
 use native.Mathlib.Omega.{arith}
-use lib.ListN.{length, getD}
+use lib.ListN.{length}
 use lib.Dec.{eqb}
 use borrow.Author.Tests.{eqb-true}
 use Rattle.octets.specs.Choice.{choose, both}
 use Rattle.octets.specs.Same.{sameBytes}
 use Rattle.octets.proofs.ChoiceLaws.{both-first, both-second}
 use Rattle.octets.proofs.SameLaws.{same-true, same-refl}
-use Rattle.message.specs.Values.{value}
 use Rattle.actions.specs.declared.Checked.{Checked}
 use Rattle.actions.specs.declared.Checked.the-variants.{Fault, Value}
 use Rattle.actions.specs.Actions.{actionOf, isFull, writesLine}
@@ -191,7 +190,7 @@ module _ (caps : Caps) (limits : Limits) (c₁ c₂ : Call) (h₁ h₂ : List Ca
 
   one-turn :
       ((es′ fs′ : List (List ℕ)) → Prior caps es′ fs′ → Named (judgements limits (ledgerAfter limits l₁ c₁) h₁) (judgements limits (ledgerAfter limits l₂ c₂) h₂) es′ fs′
-        → told caps es′ (published limits (ledgerAfter limits l₁ c₁) h₁) ≡ told caps fs′ (published limits (ledgerAfter limits l₂ c₂) h₂))
+      → told caps es′ (published limits (ledgerAfter limits l₁ c₁) h₁) ≡ told caps fs′ (published limits (ledgerAfter limits l₂ c₂) h₂))
       → (b : Bool) → publishes limits l₁ c₁ ≡ b → told caps es (published limits l₁ (c₁ ∷ h₁)) ≡ told caps fs (published limits l₂ (c₂ ∷ h₂))
   unfolding published told Prior
   one-turn rest true e =

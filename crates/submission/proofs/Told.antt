@@ -8,24 +8,23 @@ use native.Mathlib.Omega.{arith}
 use lib.ListN.{length}
 use Rattle.octets.specs.Choice.{choose, both}
 use Rattle.octets.specs.Same.{sameBytes}
-use Rattle.octets.proofs.SameLaws.{same-true, same-false, same-refl}
+use Rattle.octets.proofs.SameLaws.{same-true, same-refl}
 use Rattle.actions.specs.declared.Action.{Action}
 use Rattle.actions.specs.declared.Action.the-variants.{Newt, Modi, Corr, Term, Eror, Revi, Prto}
-use Rattle.actions.specs.declared.Checked.the-variants.{Fault, Value}
+use Rattle.actions.specs.declared.Checked.the-variants.{Value}
 use Rattle.actions.specs.Actions.{isFull, isNew, writesLine}
 use Rattle.ledger.specs.declared.header.Caps.{Caps}
 use Rattle.ledger.specs.Layout.{u32, utiSize}
 use Rattle.ledger.specs.Header.{nextIdentifier, capsIn}
-use Rattle.ledger.specs.Rows.{rowAt, identifierOf, storedTerms, placeOf, isKnown, swapRow, swapIdentifier}
+use Rattle.ledger.specs.Rows.{rowAt, identifierOf, storedTerms, isKnown, swapRow, swapIdentifier}
 use Rattle.ledger.specs.Line.{lineFields, line}
 use Rattle.ledger.proofs.RowFields.{after-identifier, after-terms}
-use Rattle.submission.specs.Opening.{Limits, opened}
+use Rattle.submission.specs.Opening.{Limits}
 use Rattle.submission.specs.Submission.{swapOf, actionIn, maskedTerms, termsFor, placeFor, rowFor, ledgerFor, lineFor, submitted}
-use Rattle.submission.specs.History.{Call, submit, messageOf, ledgerAfter, ledgerAfterAll, hasAction, publishes, lineOf, tape}
-use Rattle.submission.specs.Demand3.{start}
-use Rattle.submission.specs.Published.{published, lastLine, lastMasked, toldTerms, toldLine, told, Tape-told}
+use Rattle.submission.specs.History.{Call, submit, messageOf, ledgerAfter, publishes, lineOf, tape}
+use Rattle.submission.specs.Published.{published, lastLine, lastMasked, toldTerms, toldLine, told}
 use Rattle.submission.proofs.Acceptance.{Fits}
-use Rattle.submission.proofs.Lookup.{is-newt, old-unless-full, length-row, length-shown, old-place, next-raised, caps-kept, own-row, other-kept}
+use Rattle.submission.proofs.Lookup.{old-unless-full, row-whole, length-shown, old-place, next-raised, caps-kept, own-row, other-kept}
 use Rattle.submission.proofs.Turn.{Accepts, accepts, refused-ledger, refused-publishes, refused-line, accepted-ledger, accepted-publishes, accepted-line}
 
 -- a ledger holds what the published messages say, the latest first: the next identifier is one more than their number, and the row of each known swap has
@@ -84,7 +83,7 @@ module _ (limits : Limits) (small : limits .largest < 256 ^ u32) (caps : Caps) (
   unfolding rowFor
   own-identifier =
       ap identifierOf (own-row limits l t m a f small)
-      ∙ after-identifier a _ (swapOf m) (nextIdentifier l) (termsFor a l m) (rowAt l (placeFor a l m)) (length-shown limits l t m a f small) (length-row limits l t m a f small (placeFor a l m) (f .place)) (omega (arith, f .header .next))
+      ∙ after-identifier a _ (swapOf m) (nextIdentifier l) (termsFor a l m) (rowAt l (placeFor a l m)) (length-shown limits l t m a f small) (row-whole limits l t m a f small (placeFor a l m) (f .place)) (omega (arith, f .header .next))
       ∙ rw (h .next-is)
 
   -- the terms that the row then has are those that the line shows
@@ -97,7 +96,7 @@ module _ (limits : Limits) (small : limits .largest < 256 ^ u32) (caps : Caps) (
   unfolding rowFor
   own-terms =
       ap storedTerms (own-row limits l t m a f small)
-      ∙ after-terms a _ (swapOf m) (nextIdentifier l) (termsFor a l m) (rowAt l (placeFor a l m)) (length-shown limits l t m a f small) (length-row limits l t m a f small (placeFor a l m) (f .place))
+      ∙ after-terms a _ (swapOf m) (nextIdentifier l) (termsFor a l m) (rowAt l (placeFor a l m)) (length-shown limits l t m a f small) (row-whole limits l t m a f small (placeFor a l m) (f .place))
       ∙ stored-shown (isFull a) refl
       ∙ terms-told
 

@@ -1,24 +1,23 @@
 -- One call of a history: what it adds to the tape and leaves in the ledger. Assumes nothing.
-use Prim.Native.Nat.{ℕ, zero, suc, _+_, _<_, _≤_}
-use mathlib.Core.Bool.{Bool, true, false, false≢true}
-use mathlib.Core.Path.{_≡_, refl, sym, ap, _∙_, subst}
-use mathlib.Core.List.{List, [], _∷_, _++_}
+use Prim.Native.Nat.{ℕ, zero, suc, _≤_}
+use mathlib.Core.Bool.{Bool, true, false}
+use mathlib.Core.Path.{_≡_, refl, sym, ap, _∙_}
+use mathlib.Core.List.{List, []}
 use native.Mathlib.Omega.{arith}
 use lib.ListN.{length, take}
-use lib.Dec.{eqb}
-use borrow.Author.Tests.{eq-eqb, ne-eqb}
-use Rattle.octets.specs.Choice.{choose, both}
-use Rattle.octets.specs.Part.{part, splice}
+use borrow.Author.Tests.{ne-eqb}
+use Rattle.octets.specs.Choice.{choose}
+use Rattle.octets.specs.Part.{splice}
 use Rattle.octets.proofs.PartLaws.{part-at}
 use Rattle.actions.specs.declared.Action.{Action}
-use Rattle.actions.specs.declared.Checked.the-variants.{Fault, Value}
+use Rattle.actions.specs.declared.Checked.the-variants.{Value}
 use Rattle.actions.specs.Actions.{writesLine}
 use Rattle.ledger.specs.Layout.{lineSize}
 use Rattle.ledger.specs.Header.{nextIdentifier}
 use Rattle.ledger.proofs.LineLaws.{length-line}
 use Rattle.submission.specs.Opening.{Limits}
-use Rattle.submission.specs.Submission.{Submitted, verdictOn, swapOf, actionIn, lineFor, ledgerFor, accepted, refused, submitted}
-use Rattle.submission.specs.History.{ofKind, hasAction, publishes, lineOf, submit}
+use Rattle.submission.specs.Submission.{verdictOn, actionIn, lineFor, ledgerFor, accepted, refused, submitted}
+use Rattle.submission.specs.History.{publishes, lineOf, submit}
 use Rattle.submission.proofs.Acceptance.{Accepting, accepting, Fits, fits, is-accepted, is-refused}
 
 -- the answer's verdict is the first rule broken's

@@ -14,7 +14,7 @@ use Rattle.rules.proofs.FindingLaws.{LowestAtFault}
 use Rattle.rules.proofs.VerdictLaws.{numberOf}
 use Rattle.ledger.specs.declared.header.Caps.{Caps}
 use Rattle.submission.specs.Verdicts.{ledgerShort, capWrong, ledgerWrong, identifiersSpent}
-use Rattle.submission.specs.Opening.{Limits, Opened, opened}
+use Rattle.submission.specs.Opening.{Limits, opened}
 use Rattle.submission.specs.Submission.{Submitted, submitted, actionIn}
 use Rattle.submission.specs.Status.{Asked, asked}
 

@@ -1,5 +1,5 @@
 -- Demand 2: each verdict, ledger row and tape line is the one that document 01 gives: accepted if its rules accept, else refused under the first rule broken.
-use Prim.Native.Nat.{ℕ, _+_, _-_, _<_, _≤_}
+use Prim.Native.Nat.{ℕ, _+_, _-_, _^_, _<_, _≤_}
 use mathlib.Core.Bool.{true, false}
 use mathlib.Core.Path.{_≡_}
 use mathlib.Core.Logic.{_↔_}
@@ -7,18 +7,16 @@ use mathlib.Core.List.{List, [], _∷_, map}
 use lib.ListN.{length, getD, drop}
 use Rattle.octets.specs.Choice.{choose}
 use Rattle.octets.specs.Part.{part}
-use Rattle.octets.specs.Field.{field}
-use Rattle.octets.proofs.FieldRun.{noField}
+use Rattle.octets.specs.Fields.{Placed}
 use Rattle.message.specs.Values.{value}
 use Rattle.actions.specs.declared.Action.{Action}
 use Rattle.actions.specs.declared.Checked.the-variants.{Value}
 use Rattle.actions.specs.Actions.{isFull, isNew, writesLine}
 use Rattle.actions.specs.Statuses.{live, ported, noStep, nextStatus, repeatsTime}
 use Rattle.elements.specs.Codes.{executionTime}
-use Rattle.rules.specs.Findings.{passed}
 use Rattle.rules.specs.Rules.{verdict}
-use Rattle.rules.proofs.FindingLaws.{numberAt, findingAt, FirstBroken}
-use Rattle.ledger.specs.Layout.{u32, u64, rowsAt, nextAt, lengthAt, identifierAt, tailAt, tailSize, rowSize, rowStart, lineSize, lastIdentifier}
+use Rattle.rules.proofs.FindingLaws.{numberAt, FirstBroken}
+use Rattle.ledger.specs.Layout.{u32, u64, rowsAt, nextAt, statusAt, lengthAt, identifierAt, tailAt, tailSize, rowSize, rowStart, lineSize, lastIdentifier}
 use Rattle.ledger.specs.Header.{rowsInUse, nextIdentifier, capacityIn, capsIn}
 use Rattle.ledger.specs.Rows.{rowAt, statusOf, identifierOf, storedTerms, storedTime, isKnown, swapRow, swapStatus, swapIdentifier, rowFields}
 use Rattle.ledger.specs.Line.{lineFields}
@@ -70,14 +68,10 @@ Accepted-exactly = (limits : Limits) (l t m : List ℕ) → (submitted limits l 
 abbrev pub Outside : ℕ → ℕ → ℕ → Type 0
 Outside at n i = at ≤ i → at + n ≤ i
 
--- the fields of a layout stand in the bytes at their offsets
-abbrev pub Placed : List (ℕ × ℕ × List ℕ) → List ℕ → Type 0
-Placed fs bytes = (k : ℕ) → k < length fs → part bytes (getD fs k noField .0) (getD fs k noField .1) ≡ field (getD fs k noField .1) (getD fs k noField .2)
-
 -- the swap's row, rows in use, the next identifier, and every other byte of the ledger
 pub record LedgerWritten (a : Action) (l m l′ : List ℕ) : Type 0 where
   -- NEWT writes the whole next row, field by field
-  pub whole : isNew a ≡ true → Placed (rowFields live (swapOf m) (nextIdentifier l) (maskedTerms (capsIn l) m)) (rowAt l′ (rowsInUse l))
+  pub whole : isNew a ≡ true → Placed statusAt (rowFields live (swapOf m) (nextIdentifier l) (maskedTerms (capsIn l) m)) (rowAt l′ (rowsInUse l))
   -- every action writes the status; those with a line the identifier; full ones the terms
   pub status : statusOf (rowAt l′ (placeFor a l m)) ≡ nextStatus a (swapStatus l (swapOf m))
   pub identifier : identifierOf (rowAt l′ (placeFor a l m)) ≡ choose (writesLine a) (nextIdentifier l) (identifierOf (rowAt l (placeFor a l m)))
@@ -94,13 +88,13 @@ pub record LedgerWritten (a : Action) (l m l′ : List ℕ) : Type 0 where
 
 -- the line in the first 146 bytes of the tape buffer, and every later byte; PRTO writes no byte
 pub record TapeWritten (a : Action) (l t m t′ : List ℕ) : Type 0 where
-  pub line : writesLine a ≡ true → Placed (lineFields a (nextIdentifier l) (swapIdentifier l (swapOf m)) m (termsFor a l m)) t′
+  pub line : writesLine a ≡ true → Placed 0 (lineFields a (nextIdentifier l) (swapIdentifier l (swapOf m)) m (termsFor a l m)) t′
   pub later : drop lineSize t′ ≡ drop lineSize t
   pub long : length t′ ≡ length t
   pub none : writesLine a ≡ false → t′ ≡ t
 
 -- an accepted message
-pub record Written (limits : Limits) (l t m : List ℕ) (s : Submitted) : Type 0 where
+pub record Written (l t m : List ℕ) (s : Submitted) : Type 0 where
   pub action : Action
   pub reads : actionIn m ≡ Value action
   pub ledger : LedgerWritten action l m (s .ledger)
@@ -108,4 +102,4 @@ pub record Written (limits : Limits) (l t m : List ℕ) (s : Submitted) : Type 0
   pub identifier : s .identifier ≡ choose (writesLine action) (nextIdentifier l) 0
 
 abbrev pub Acceptance-writes : Type 0
-Acceptance-writes = (limits : Limits) (l t m : List ℕ) → submitted limits l t m .verdict ≡ 0 → Written limits l t m (submitted limits l t m)
+Acceptance-writes = (limits : Limits) (l t m : List ℕ) → limits .largest < 256 ^ u32 → submitted limits l t m .verdict ≡ 0 → Written l t m (submitted limits l t m)

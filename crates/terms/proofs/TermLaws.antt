@@ -1,9 +1,9 @@
 -- Laws of specs/Terms.antt. Assumes nothing.
-use Prim.Native.Nat.{ℕ, _-_, _^_, _<_, _≤_}
+use Prim.Native.Nat.{ℕ, _^_, _<_, _≤_}
 use mathlib.Core.Bool.{Bool, true}
 use mathlib.Core.Path.{_≡_, refl, sym, ap, _∙_}
 use mathlib.Core.List.{List, [], _++_}
-use lib.ListN.{length, getD, drop-of-length-le}
+use lib.ListN.{length, drop-of-length-le}
 use native.Mathlib.Omega.{arith}
 use borrow.Author.Tests.{eq-eqb, ne-eqb}
 use Rattle.octets.specs.Choice.{choose}
@@ -12,11 +12,9 @@ use Rattle.values.specs.Code.{isTrue}
 use Rattle.notional.specs.Masking.{largestCap, shown}
 use Rattle.notional.proofs.MaskingLaws.{shown-largest}
 use Rattle.price.specs.Price.{shownPrice}
-use Rattle.octets.specs.Part.{part}
-use Rattle.octets.specs.Field.{field}
-use Rattle.octets.specs.Fields.{written}
+use Rattle.octets.specs.Fields.{written, Placed}
 use Rattle.terms.specs.Terms.{termsStart, termsEnd, termsSize, notionalDigits, shownTruth, priceText, dateFields, truthFields, priceFields, notionalFields, termFields, termsOf}
-use Rattle.octets.proofs.FieldRun.{inPlace, length-bytes, written-append, all-written, noField, field-placed}
+use Rattle.octets.proofs.FieldRun.{inPlace, length-bytes, written-append, all-written, field-placed}
 
 -- ---- what is shown of a value
 
@@ -57,9 +55,9 @@ unfolding termsOf
 length-terms cap m = omega (arith, length-bytes termsStart (termFields cap m) termsEnd (in-place cap m))
 
 -- each field stands at document 01's offset
-pub term-placed : (cap : ℕ) (m : List ℕ) (k : ℕ) → k < length (termFields cap m) → part (termsOf cap m) (getD (termFields cap m) k noField .0 - termsStart) (getD (termFields cap m) k noField .1) ≡ field (getD (termFields cap m) k noField .1) (getD (termFields cap m) k noField .2)
+pub term-placed : (cap : ℕ) (m : List ℕ) → Placed termsStart (termFields cap m) (termsOf cap m)
 unfolding termsOf
-term-placed cap m k h = field-placed termsStart (termFields cap m) termsEnd k (in-place cap m) h
+term-placed cap m = field-placed termsStart (termFields cap m) termsEnd (in-place cap m)
 
 -- the four groups, written one after the other
 pub groups-written : (cap : ℕ) (m d : List ℕ) {d₁ d₂ d₃ last : List ℕ} → length d ≡ termsSize → d₁ ≡ written termsStart (dateFields m) d → d₂ ≡ written termsStart (truthFields m) d₁ → d₃ ≡ written termsStart (priceFields m) d₂ → last ≡ written termsStart (notionalFields cap m) d₃ → last ≡ termsOf cap m

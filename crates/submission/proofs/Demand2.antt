@@ -1,0 +1,270 @@
+-- Demand 2. Assumes nothing.
+use Prim.Native.Nat.{ℕ, _+_, _-_, _^_, _<_, _≤_}
+use mathlib.Core.Bool.{Bool, true, false, not, false≢true}
+use mathlib.Core.Path.{_≡_, refl, sym, ap, ap₂, _∙_, subst}
+use mathlib.Core.List.{List, _++_}
+use native.Mathlib.Omega.{arith}
+use native.Mathlib.Nat.{zero-add}
+use lib.ListN.{length, getD, drop}
+use lib.Seq.{drop-at}
+use lib.Dec.{eqb, leb}
+use borrow.Author.Tests.{eqb-false, ne-eqb, leb-true, le-leb, le-ltb}
+use Rattle.octets.specs.Choice.{choose, both}
+use Rattle.octets.specs.Part.{part, splice}
+use Rattle.octets.specs.Fields.{FieldAt, noField, Placed}
+use Rattle.octets.specs.Same.{sameBytes}
+use Rattle.octets.proofs.ChoiceLaws.{both-first, both-second}
+use Rattle.octets.proofs.SameLaws.{same-true, same-refl}
+use Rattle.octets.proofs.PartLaws.{length-splice, part-within, byte-apart}
+use Rattle.octets.proofs.FieldRun.{field-inside}
+use Rattle.values.specs.Run.{within}
+use Rattle.message.specs.Values.{value}
+use Rattle.terms.specs.Terms.{termsSize}
+use Rattle.actions.specs.declared.Action.{Action}
+use Rattle.actions.specs.declared.Action.the-variants.{Newt}
+use Rattle.actions.specs.declared.Checked.{Checked}
+use Rattle.actions.specs.declared.Checked.the-variants.{Value}
+use Rattle.actions.specs.Actions.{isFull, isNew, writesLine}
+use Rattle.actions.specs.Statuses.{live, ported, nextStatus, repeatsTime}
+use Rattle.elements.specs.Codes.{executionTime}
+use Rattle.rules.specs.Findings.{Finding, passed, firstBroken}
+use Rattle.rules.specs.Rules.{rulesFor, rulesOf, verdict}
+use Rattle.rules.proofs.FindingLaws.{numberAt, findingAt, broken-first, first-broken, none-broken, passed-then}
+use Rattle.rules.proofs.VerdictLaws as message
+use Rattle.ledger.specs.Layout.{u32, u64, rowsAt, nextAt, lengthAt, identifierAt, rowSize, rowStart, lineSize, lastIdentifier}
+use Rattle.ledger.specs.Header.{rowsInUse, nextIdentifier, capacityIn, capsIn}
+use Rattle.ledger.specs.Rows.{rowAt, statusOf, identifierOf, storedTerms, storedTime, isKnown, swapRow, swapStatus, swapIdentifier, newRow, rowAfter}
+use Rattle.ledger.specs.Line.{lineFields, line}
+use Rattle.ledger.proofs.RightHeader.{header-right, rows-fit}
+use Rattle.ledger.proofs.RowAfterLaws.{row-placed}
+use Rattle.ledger.proofs.RowFields.{after-status, after-identifier, after-terms, after-kept, after-tail}
+use Rattle.ledger.proofs.ReadBack.{raised-byte}
+use Rattle.ledger.proofs.LineLaws.{line-in-place, length-line, line-placed}
+use Rattle.submission.specs.Opening.{Limits}
+use Rattle.submission.specs.Submission.{submitted, swapOf, actionIn, rowRight, hasWrongRow, isNotAdmitted, hasOtherTime, findsFull, findsSpent, swapRules, submissionRules, rulesOn, verdictOn, maskedTerms, termsFor, placeFor, rowFor, ledgerFor, lineFor}
+use Rattle.submission.specs.Demand2.{Verdict-exactly, Checking-order, RightRow, Sound, Accepted-exactly, Outside, LedgerWritten, TapeWritten, Acceptance-writes}
+use Rattle.submission.proofs.Acceptance.{not-not, both-false, numbers-differ, Accepting, accepting, Fits, row-test, status-test, time-test, message-passes, room-test, spent-test}
+use Rattle.submission.proofs.Lookup.{is-newt, row-whole, length-shown, length-after, ledger-length, new-place, rows-raised, next-raised, row-written}
+use Rattle.submission.proofs.Turn.{Accepts, accepts, verdict-is}
+use Rattle.submission.proofs.Demand1.{element-is}
+
+-- ---- the verdict
+
+pub verdict-exactly : Verdict-exactly
+unfolding verdictOn
+verdict-exactly limits l t m i e h =
+    let rs : List (ℕ × Finding) = rulesOn limits l t m in (
+      λ p.
+          let n : verdictOn limits l t m .0 ≡ numberAt rs i = sym (verdict-is limits l t m) ∙ p .0 in
+          let c : verdictOn limits l t m .1 ≡ e = sym (element-is limits l t m) ∙ p .1 in
+          broken-first rs i e (numbers-differ limits l t m (actionIn m)) h (ap₂ {C = ℕ × ℕ} (λ x y. (x, y)) n c),
+      λ b.
+          let v : verdictOn limits l t m ≡ (numberAt rs i, e) = first-broken rs i e h b in
+          (verdict-is limits l t m ∙ ap (λ x. x .0) v, element-is limits l t m ∙ ap (λ x. x .1) v),
+    )
+
+pub checking-order : Checking-order
+unfolding submissionRules rulesFor rulesOf swapRules
+checking-order limits a l t m = refl
+
+-- ---- acceptance in words
+
+module _ (limits : Limits) (l t m : List ℕ) where
+  right-row : (next : ℕ) (r : List ℕ) → rowRight next r ≡ true → RightRow next r
+  unfolding rowRight
+  right-row next r e =
+      let status : within live ported (statusOf r) ≡ true = both-first (within live ported (statusOf r)) (within 1 (next - 1) (identifierOf r)) e in
+      let identifier : within 1 (next - 1) (identifierOf r) ≡ true = both-second (within live ported (statusOf r)) (within 1 (next - 1) (identifierOf r)) e in
+      let given : 1 ≤ identifierOf r = leb-true _ _ (both-first (leb 1 (identifierOf r)) (leb (identifierOf r) (next - 1)) identifier) in
+      let most : identifierOf r ≤ next - 1 = leb-true _ _ (both-second (leb 1 (identifierOf r)) (leb (identifierOf r) (next - 1)) identifier) in
+      record {
+        least = leb-true _ _ (both-first (leb live (statusOf r)) (leb (statusOf r) ported) status);
+        most = leb-true _ _ (both-second (leb live (statusOf r)) (leb (statusOf r) ported) status);
+        given = given;
+        before = omega arith;
+      }
+
+  row-right : (next : ℕ) (r : List ℕ) → RightRow next r → rowRight next r ≡ true
+  unfolding rowRight
+  row-right next r h =
+      let most : identifierOf r ≤ next - 1 = omega (arith, h .given, h .before) in
+      rw (le-leb _ _ (h .least), le-leb _ _ (h .most), le-leb _ _ (h .given), le-leb _ _ most)
+
+  sound : submitted limits l t m .verdict ≡ 0 → Sound limits l t m
+  unfolding hasWrongRow hasOtherTime verdict
+  sound v =
+      let c : Accepting limits l t m = accepting limits l t m (sym (verdict-is limits l t m) ∙ v) in
+      let s : Accepts limits l t m = accepts limits l t m v in
+      let a : Action = c .action in
+      record {
+        action = a;
+        reads = c .reads;
+        header = s .fitting .header;
+        tape = s .fitting .tape;
+        message = rw (c .reads) (none-broken (rulesFor (Value a) (limits .longest) m) (message-passes limits l t m a (c .passes)));
+        row = λ k. right-row (nextIdentifier l) (swapRow l (swapOf m)) (not-not _ (both-false (isKnown l (swapOf m)) _ (row-test limits l t m a (c .passes)) k));
+        step = eqb-false _ _ (status-test limits l t m a (c .passes));
+        time = λ k. same-true _ _ (not-not _ (both-false (repeatsTime a) _ (time-test limits l t m a (c .passes)) k));
+        room = λ k. eqb-false _ _ (both-false (isNew a) _ (room-test limits l t m a (c .passes)) k);
+        spare = λ k. eqb-false _ _ (both-false (writesLine a) _ (spent-test limits l t m a (c .passes)) k);
+      }
+
+  module _ (s : Sound limits l t m) where
+    right-found : hasWrongRow l (swapOf m) ≡ false
+    unfolding hasWrongRow
+    right-found = by (isKnown l (swapOf m)) refl
+      where
+        by : (b : Bool) → isKnown l (swapOf m) ≡ b → both b (not (rowRight (nextIdentifier l) (swapRow l (swapOf m)))) ≡ false
+        by true k = rw (row-right (nextIdentifier l) (swapRow l (swapOf m)) (s .row k))
+        by false k = refl
+
+    same-time : hasOtherTime (s .action) l m ≡ false
+    unfolding hasOtherTime
+    same-time = by (repeatsTime (s .action)) refl
+      where
+        by : (b : Bool) → repeatsTime (s .action) ≡ b → both b (not (sameBytes (value executionTime m) (storedTime (swapRow l (swapOf m))))) ≡ false
+        by true k = rw (s .time k) (ap not (same-refl (storedTime (swapRow l (swapOf m)))))
+        by false k = refl
+
+    room-found : findsFull (s .action) l ≡ false
+    unfolding findsFull
+    room-found = by (isNew (s .action)) refl
+      where
+        by : (b : Bool) → isNew (s .action) ≡ b → both b (eqb (rowsInUse l) (capacityIn l)) ≡ false
+        by true k = ne-eqb _ _ (s .room k)
+        by false k = refl
+
+    identifier-found : findsSpent (s .action) l ≡ false
+    unfolding findsSpent
+    identifier-found = by (writesLine (s .action)) refl
+      where
+        by : (b : Bool) → writesLine (s .action) ≡ b → both b (eqb (nextIdentifier l) lastIdentifier) ≡ false
+        by true k = ne-eqb _ _ (s .spare k)
+        by false k = refl
+
+    admitted : isNotAdmitted (s .action) l (swapOf m) ≡ false
+    unfolding isNotAdmitted
+    admitted = ne-eqb _ _ (s .step)
+
+    message-right : (i : ℕ) → i < length (rulesFor (Value (s .action)) (limits .longest) m) → findingAt (rulesFor (Value (s .action)) (limits .longest) m) i ≡ passed
+    message-right =
+        subst (λ (r : Checked). (i : ℕ) → i < length (rulesFor r (limits .longest) m) → findingAt (rulesFor r (limits .longest) m) i ≡ passed) (s .reads)
+        (message.accepted-exactly (limits .longest) m .0 (ap (λ v. v .0) (s .message)))
+
+    front-passed : firstBroken (submissionRules limits (Value (s .action)) l t m) ≡ firstBroken (rulesFor (Value (s .action)) (limits .longest) m ++ swapRules (s .action) l m)
+    unfolding submissionRules firstBroken
+    front-passed = rw (header-right (limits .largest) l (s .header), le-ltb (length t) lineSize (s .tape))
+
+    swap-passed : firstBroken (swapRules (s .action) l m) ≡ (0, 0)
+    unfolding swapRules firstBroken
+    swap-passed = rw (right-found, admitted, same-time, room-found, identifier-found)
+
+    all-passed-on : verdictOn limits l t m ≡ (0, 0)
+    unfolding verdictOn
+    all-passed-on =
+        ap (λ r. firstBroken (submissionRules limits r l t m)) (s .reads)
+        ∙ front-passed
+        ∙ passed-then (rulesFor (Value (s .action)) (limits .longest) m) (swapRules (s .action) l m) message-right
+        ∙ swap-passed
+
+    is-accepted : submitted limits l t m .verdict ≡ 0
+    is-accepted = verdict-is limits l t m ∙ ap (λ v. v .0) all-passed-on
+
+pub accepted-exactly : Accepted-exactly
+accepted-exactly limits l t m = (sound limits l t m, is-accepted limits l t m)
+
+-- ---- what an accepted message writes
+
+module _ (limits : Limits) (l t m : List ℕ) (a : Action) (f : Fits limits l t m a) (small : limits .largest < 256 ^ u32) where
+  abbrev old : List ℕ
+  old = rowAt l (placeFor a l m)
+
+  whole : length (rowAt l (placeFor a l m)) ≡ rowSize
+  whole = row-whole limits l t m a f small (placeFor a l m) (f .place)
+
+  shown : length (termsFor a l m) ≡ termsSize
+  shown = length-shown limits l t m a f small
+
+  row-is : rowAt (ledgerFor a l m) (placeFor a l m) ≡ rowAfter a (nextStatus a (swapStatus l (swapOf m))) (swapOf m) (nextIdentifier l) (termsFor a l m) (rowAt l (placeFor a l m))
+  unfolding rowFor
+  row-is = row-written limits l t m a f small
+
+  -- the row of a new swap
+  new-row : isNew a ≡ true → rowAt (ledgerFor a l m) (rowsInUse l) ≡ newRow live (swapOf m) (nextIdentifier l) (maskedTerms (capsIn l) m)
+  unfolding swapStatus termsFor
+  new-row e =
+      let is : a ≡ Newt = is-newt a e in
+      let none : isKnown l (swapOf m) ≡ false = f .free e in
+      ap (rowAt (ledgerFor a l m)) (sym (new-place limits l t m a f small e)) ∙ row-is ∙ rw (is, none)
+
+  own-terms : (b : Bool) → isFull a ≡ b → choose b (termsFor a l m) (storedTerms (rowAt l (placeFor a l m))) ≡ choose b (maskedTerms (capsIn l) m) (storedTerms (rowAt l (placeFor a l m)))
+  unfolding termsFor
+  own-terms true e = rw e
+  own-terms false e = refl
+
+  -- every other byte
+  fits : rowStart (placeFor a l m) + length (rowFor a l m) ≤ length l
+  fits = omega (arith, length-after limits l t m a f small, rows-fit (limits .largest) l (f .header), f .place)
+
+  bytes-kept : (i : ℕ) → Outside (rowStart (placeFor a l m)) rowSize i → (isNew a ≡ true → Outside rowsAt u32 i) → (writesLine a ≡ true → Outside nextAt u64 i) → getD (ledgerFor a l m) i 0 ≡ getD l i 0
+  unfolding ledgerFor
+  bytes-kept i outside p q =
+      let same : length (splice l (rowStart (placeFor a l m)) (rowFor a l m)) ≡ length l = length-splice l (rowFor a l m) (rowStart (placeFor a l m)) fits in
+      raised-byte a (rowsInUse l) (nextIdentifier l) (splice l (rowStart (placeFor a l m)) (rowFor a l m)) (omega (arith, same, f .header .long)) i p q
+      ∙ byte-apart l (rowFor a l m) (rowStart (placeFor a l m)) i fits (λ b. omega (arith, length-after limits l t m a f small, outside b))
+
+  ledger-written : LedgerWritten a l m (ledgerFor a l m)
+  ledger-written =
+      record {
+        whole = λ e. rw (new-row e) (row-placed live (swapOf m) (nextIdentifier l) (maskedTerms (capsIn l) m));
+        status = ap statusOf row-is ∙ after-status a _ (swapOf m) (nextIdentifier l) (termsFor a l m) old shown whole;
+        identifier = ap identifierOf row-is ∙ after-identifier a _ (swapOf m) (nextIdentifier l) (termsFor a l m) old shown whole (omega (arith, f .header .next));
+        terms = ap storedTerms row-is ∙ after-terms a _ (swapOf m) (nextIdentifier l) (termsFor a l m) old shown whole ∙ own-terms (isFull a) refl;
+        name = λ e. rw row-is (after-kept a _ (swapOf m) (nextIdentifier l) (termsFor a l m) old shown whole e lengthAt (identifierAt - lengthAt) (omega arith) (omega arith));
+        tail = λ e. rw row-is (after-tail a _ (swapOf m) (nextIdentifier l) (termsFor a l m) old shown whole e);
+        rows = rows-raised limits l t m a f small;
+        next = next-raised limits l t m a f small;
+        long = ledger-length limits l t m a f small;
+        others = bytes-kept;
+      }
+
+  -- ---- the tape buffer
+
+  line-fits : 0 + length (lineFor a l m) ≤ length t
+  unfolding lineFor
+  line-fits = omega (arith, length-line a (nextIdentifier l) (swapIdentifier l (swapOf m)) m (termsFor a l m), f .tape)
+
+  line-long : length (lineFor a l m) ≡ lineSize
+  unfolding lineFor
+  line-long = length-line a (nextIdentifier l) (swapIdentifier l (swapOf m)) m (termsFor a l m)
+
+  placed : Placed 0 (lineFields a (nextIdentifier l) (swapIdentifier l (swapOf m)) m (termsFor a l m)) (splice t 0 (lineFor a l m))
+  unfolding lineFor
+  placed k h =
+      let fs : List FieldAt = lineFields a (nextIdentifier l) (swapIdentifier l (swapOf m)) m (termsFor a l m) in
+      let inside : getD fs k noField .0 + getD fs k noField .1 ≤ lineSize = field-inside 0 fs lineSize k (line-in-place a (nextIdentifier l) (swapIdentifier l (swapOf m)) m (termsFor a l m)) h in
+      let there : part (splice t 0 (lineFor a l m)) (getD fs k noField .0 - 0) (getD fs k noField .1) ≡ part (lineFor a l m) (getD fs k noField .0 - 0) (getD fs k noField .1) =
+      rw zero-add at (part-within t (lineFor a l m) 0 line-fits (getD fs k noField .0 - 0) (getD fs k noField .1) (omega (arith, line-long))) in
+      there ∙ line-placed a (nextIdentifier l) (swapIdentifier l (swapOf m)) m (termsFor a l m) k h
+
+  later-bytes : drop lineSize (splice t 0 (lineFor a l m)) ≡ drop lineSize t
+  unfolding splice
+  later-bytes = drop-at (lineFor a l m) (drop (0 + length (lineFor a l m)) t) lineSize line-long ∙ rw (zero-add, line-long)
+
+  tape-written : TapeWritten a l t m (choose (writesLine a) (splice t 0 (lineFor a l m)) t)
+  tape-written = by (writesLine a) refl
+    where
+      by : (b : Bool) → writesLine a ≡ b → TapeWritten a l t m (choose b (splice t 0 (lineFor a l m)) t)
+      by true e = record { line = λ w. placed; later = later-bytes; long = length-splice t (lineFor a l m) 0 line-fits; none = λ w. absurd (false≢true (sym w ∙ e)) }
+      by false e = record { line = λ w. absurd (false≢true (sym e ∙ w)); later = refl; long = refl; none = λ w. refl }
+
+pub acceptance-writes : Acceptance-writes
+acceptance-writes limits l t m small v =
+    let c : Accepts limits l t m = accepts limits l t m v in
+    record {
+      action = c .action;
+      reads = c .reads;
+      ledger = rw (ap (λ s. s .ledger) (c .answer)) (ledger-written limits l t m (c .action) (c .fitting) small);
+      tape = rw (ap (λ s. s .tape) (c .answer)) (tape-written limits l t m (c .action) (c .fitting) small);
+      identifier = ap (λ s. s .identifier) (c .answer);
+    }

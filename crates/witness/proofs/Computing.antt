@@ -1,0 +1,76 @@
+-- What opening, judging, masking and writing compute with. To unfold a definition is to unfold all that its line names. Assumes nothing.
+use Rattle.octets.specs.Field.{field}
+use Rattle.octets.specs.Fields.{bytesOf}
+use Rattle.octets.specs.Number.{fromLe, toLe, digits}
+use Rattle.octets.specs.Part.{splice}
+use Rattle.octets.specs.Same.{sameBytes, place, oneOf, beside}
+use Rattle.octets.specs.Search.{firstFrom, allFrom}
+use Rattle.octets.specs.Text.{text}
+use Rattle.values.specs.Code.{isTrue, isFalse, isTruth, isCleared, isAllocation, isNotation, isAssetClass}
+use Rattle.values.specs.Lei.{grow, spell, isLei}
+use Rattle.values.specs.Run.{runOf}
+use Rattle.numbers.specs.Numbers.{pointIn, wholeOf, decimalsOf, isNumber, unsignedOf, isPrice}
+use Rattle.dates.specs.Dates.{fitsPattern, twoDigits, leap, daysIn, gregorian, namesDate, isDate, isTime, before}
+use Rattle.message.specs.Layout.{u16At, entryRight, layoutRight}
+use Rattle.message.specs.Values.{entryFrom, endOf, valueAt, value}
+use Rattle.actions.specs.Actions.{actionOf}
+use Rattle.actions.specs.Elements.{known, hasLayout}
+use Rattle.actions.specs.Matrix.{tick, pairAllowed}
+use Rattle.elements.specs.Conditions.{isMissing, isPackage, notationIs, conditionOf, isDue, kept}
+use Rattle.elements.specs.Forms.{formOf, hasForm}
+use Rattle.notional.specs.Amount.{digit, spelled, fraction, amount}
+use Rattle.notional.specs.Masking.{over, shown, isCap}
+use Rattle.notional.specs.Rounding.{bands, stepIn, step, nearest, rounded}
+use Rattle.price.specs.Price.{dropZeros, trimZeros, shownWhole, shownDecimals, shownUnsigned, isZero, showsMinus, shownSign, shownPrice}
+use Rattle.terms.specs.Terms.{shownTruth, priceText, plusText, dateFields, truthFields, priceFields, notionalFields, termFields, termsOf}
+use Rattle.rules.specs.Findings.{lowest, firstBroken}
+use Rattle.rules.specs.Rules.{longPrice, priceTooLong, outOfOrder, rulesOf, rulesFor}
+use Rattle.ledger.specs.Header.{rowsInUse, firstRow, nextIdentifier, capsIn, sizeOfRows, capacityIn, capFor, areCaps, capacityFor, headerRight, headerFields, newHeader}
+use Rattle.ledger.specs.Line.{lineFields, line}
+use Rattle.ledger.specs.Rows.{rowAt, statusOf, identifierOf, storedTerms, storedTime, holdsUti, placeIn, isKnown, swapStatus, swapIdentifier, rowFields, newRow, withStatus, withIdentifier, withTerms, withRows, withNext, headerAfter}
+use Rattle.submission.specs.Demand3.{lastTerms, termsAt}
+use Rattle.submission.specs.History.{publishes, lineOf, tape, judgements}
+use Rattle.submission.specs.Opening.{openingRules, openingVerdict, opened}
+use Rattle.submission.specs.Submission.{rowRight, hasWrongRow, isNotAdmitted, hasOtherTime, findsFull, findsSpent, swapRules, submissionRules, verdictOn, maskedTerms, termsFor, placeFor, rowFor, ledgerFor, lineFor, submitted}
+use Rattle.witness.specs.Encoding.{entries, values, encoded}
+use Rattle.witness.specs.Messages.{packageSwap, newUnclearedSwap, inError, termination}
+use Rattle.witness.specs.Histories.{left, right}
+use Rattle.witness.specs.Lines.{lineText, lines, tapeText}
+use Rattle.witness.proofs.AlikeTest.{alikeTest}
+
+bytes : Unit {0}
+unfolding field bytesOf fromLe toLe digits splice sameBytes place oneOf beside firstFrom allFrom text
+bytes = tt
+
+forms : Unit {0}
+unfolding isTrue isFalse isTruth isCleared isAllocation isNotation isAssetClass grow spell isLei runOf pointIn wholeOf decimalsOf isNumber unsignedOf isPrice fitsPattern twoDigits leap daysIn gregorian namesDate isDate isTime before
+forms = tt
+
+reading : Unit {0}
+unfolding u16At entryRight layoutRight entryFrom endOf valueAt value actionOf known hasLayout tick pairAllowed isMissing isPackage notationIs conditionOf isDue kept formOf hasForm
+reading = tt
+
+masking : Unit {0}
+unfolding digit spelled fraction amount over shown isCap bands stepIn step nearest rounded dropZeros trimZeros shownWhole shownDecimals shownUnsigned isZero showsMinus shownSign shownPrice shownTruth priceText plusText dateFields truthFields priceFields notionalFields termFields termsOf
+masking = tt
+
+judging : Unit {0}
+unfolding lowest firstBroken longPrice priceTooLong outOfOrder rulesOf rulesFor
+judging = tt
+
+storing : Unit {0}
+unfolding rowsInUse firstRow nextIdentifier capsIn sizeOfRows capacityIn capFor areCaps capacityFor headerRight headerFields newHeader lineFields line rowAt statusOf identifierOf storedTerms storedTime holdsUti placeIn isKnown swapStatus swapIdentifier rowFields newRow withStatus withIdentifier withTerms withRows withNext headerAfter
+storing = tt
+
+submitting : Unit {0}
+unfolding lastTerms termsAt publishes lineOf tape judgements openingRules openingVerdict opened rowRight hasWrongRow isNotAdmitted hasOtherTime findsFull findsSpent swapRules submissionRules verdictOn maskedTerms termsFor placeFor rowFor ledgerFor lineFor submitted
+submitting = tt
+
+history : Unit {0}
+unfolding entries values encoded packageSwap newUnclearedSwap inError termination left right lineText lines tapeText alikeTest
+history = tt
+
+-- all of it
+unfoldable pub computing : Unit {0}
+unfolding bytes forms reading masking judging storing submitting history
+computing = tt

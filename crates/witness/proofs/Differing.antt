@@ -1,0 +1,43 @@
+-- The two histories differ. Assumes nothing.
+use Prim.Native.Nat.{ℕ, _<_}
+use mathlib.Core.Bool.{true, not, false≢true}
+use mathlib.Core.Path.{_≡_, refl, sym, ap, _∙_}
+use mathlib.Core.List.{List}
+use lib.ListN.{length}
+use lib.Dec.{eqb}
+use borrow.Author.Tests.{eqb-false, not-true}
+use Rattle.octets.specs.Search.{all}
+use Rattle.octets.specs.Same.{sameBytes}
+use Rattle.octets.proofs.SameLaws.{same-refl}
+use Rattle.witness.specs.Histories.{left, leftLedger, right, rightLedger}
+use Rattle.witness.specs.Differences.{hiddenCodes, fullPlaces, hidden, exact, bufferSize, Differ}
+use Rattle.witness.proofs.AlikeTest.{at-place}
+use Rattle.witness.proofs.Computing.{computing}
+
+-- bytes that the test tells apart are not equal
+told-apart : (u v : List ℕ) → not (sameBytes u v) ≡ true → u ≡ v → ⊥
+told-apart u v e p = false≢true (sym (not-true (sameBytes u v) e) ∙ ap (sameBytes u) (sym p) ∙ same-refl u)
+
+numbers-apart : (a b : ℕ) → not (eqb a b) ≡ true → a ≡ b → ⊥
+numbers-apart a b e = eqb-false a b (not-true (eqb a b) e)
+
+elements-tested : all (λ i. all (λ k. not (sameBytes (hidden left i k) (hidden right i k))) (length hiddenCodes)) (length fullPlaces) ≡ true
+unfolding computing
+elements-tested = refl
+
+amounts-tested : all (λ i. not (eqb (exact left i) (exact right i))) (length fullPlaces) ≡ true
+unfolding computing
+amounts-tested = refl
+
+buffers-tested : all (λ i. not (eqb (bufferSize left i) (bufferSize right i))) (length left) ≡ true
+unfolding computing
+buffers-tested = refl
+
+pub histories-differ : Differ
+histories-differ =
+    record {
+      elements = λ i k h l. told-apart _ _ (at-place _ (length hiddenCodes) k l (at-place _ (length fullPlaces) i h elements-tested));
+      amounts = λ i h. numbers-apart _ _ (at-place _ (length fullPlaces) i h amounts-tested);
+      buffers = λ i h. numbers-apart _ _ (at-place _ (length left) i h buffers-tested);
+      ledgers = numbers-apart (length leftLedger) (length rightLedger) refl;
+    }

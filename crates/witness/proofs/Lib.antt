@@ -1,0 +1,5 @@
+pub mod AlikeTest
+pub mod Computing
+pub mod Premises
+pub mod Tapes
+pub mod Differing

@@ -1,0 +1,41 @@
+-- What differs between the two histories.
+use Prim.Native.Nat.{ℕ, _<_}
+use mathlib.Core.Path.{_≡_}
+use mathlib.Core.List.{List, [], _∷_, map}
+use lib.ListN.{length, getD}
+use Rattle.message.specs.Values.{value}
+use Rattle.elements.specs.Codes.{uti, reportingTime, settlementDate, packageIdentifier, packagePrice, notionalAmount}
+use Rattle.notional.specs.Amount.{amount}
+use Rattle.submission.specs.History.{Call, submit, messageOf}
+use Rattle.witness.specs.Messages.{allocation, counterparty1, counterparty2}
+use Rattle.witness.specs.Histories.{left, leftLedger, right, rightLedger}
+
+-- the elements that the tape does not show, or not as they were sent
+abbrev pub hiddenCodes : List ℕ
+hiddenCodes = uti ∷ reportingTime ∷ settlementDate ∷ allocation ∷ packageIdentifier ∷ packagePrice ∷ notionalAmount ∷ counterparty1 ∷ counterparty2 ∷ []
+
+-- the places of the accepted full messages
+abbrev pub fullPlaces : List ℕ
+fullPlaces = 0 ∷ 1 ∷ 3 ∷ []
+
+-- the value of a hidden element in a full message of a history
+abbrev pub hidden : List Call → ℕ → ℕ → List ℕ
+hidden h i k = value (getD hiddenCodes k 0) (getD (map messageOf h) (getD fullPlaces i 0) [])
+
+-- the exact amount of a full message of a history
+abbrev pub exact : List Call → ℕ → ℕ
+exact h i = amount (value notionalAmount (getD (map messageOf h) (getD fullPlaces i 0) []))
+
+-- the tape buffer that is lent for a call
+abbrev pub bufferOf : Call → List ℕ
+bufferOf (submit m t) = t
+
+abbrev pub bufferSize : List Call → ℕ → ℕ
+bufferSize h i = length (getD (map bufferOf h) i [])
+
+-- each hidden element of each full message, its exact amount, the length of each tape buffer, and the length of the ledger
+pub record Differ : Type 0 where
+  pub elements : (i k : ℕ) → i < length fullPlaces → k < length hiddenCodes → hidden left i k ≡ hidden right i k → ⊥
+  pub amounts : (i : ℕ) → i < length fullPlaces → exact left i ≡ exact right i → ⊥
+  pub buffers : (i : ℕ) → i < length left → bufferSize left i ≡ bufferSize right i → ⊥
+  pub ledgers : length leftLedger ≡ length rightLedger → ⊥

@@ -1,0 +1,98 @@
+-- Two histories that differ in all that the tape does not show.
+use Prim.Native.Nat.{ℕ}
+use mathlib.Core.List.{List, [], _∷_}
+use lib.ListN.{replicate}
+use Rattle.ledger.specs.declared.header.Caps.{Caps}
+use Rattle.submission.specs.Opening.{Limits}
+use Rattle.submission.specs.History.{Call, submit}
+use Rattle.witness.specs.Messages.{Hidden, newPackageSwap, extendedPackageSwap, newUnclearedSwap, inError, termination}
+
+-- the longest message and the largest capacity of document 01
+abbrev pub limits : Limits
+limits = record { longest = 2_048; largest = 100_000 }
+
+abbrev pub cap : ℕ
+cap = 250_000_000
+
+abbrev pub caps : Caps
+caps = record { cr = cap; ir = cap; fx = cap; eq = cap; co = cap }
+
+-- ---- the left history
+
+abbrev pub northRates : Hidden
+northRates =
+    record {
+      uti = "529900NORTHBANK00170IRS20260302000017";
+      settlement = "2033-03-08";
+      allocation = "UNAL";
+      packageName = "Alpha7";
+      price = "-0101.250";
+      counterparty1 = "529900NORTHBANK00170";
+      counterparty2 = "213800NORTHFUND00170";
+    }
+
+abbrev pub northGrain : Hidden
+northGrain =
+    record {
+      uti = "529900NORTHBANK00170GRAIN";
+      settlement = "2027-04-01";
+      allocation = "PREA";
+      packageName = "Alpha8";
+      price = "3";
+      counterparty1 = "549300NORTHGRAIN0150";
+      counterparty2 = "529900NORTHBANK00170";
+    }
+
+-- a ledger of two rows
+abbrev pub leftLedger : List ℕ
+leftLedger = replicate 384 0
+
+-- the third message is refused: the swap is known
+unfoldable pub left : List Call
+left =
+    submit (newPackageSwap northRates "2026-03-02T14:30:05Z" "104999999") (replicate 146 0)
+    ∷ submit (extendedPackageSwap northRates "2026-03-03T09:00:01Z" "250400000") (replicate 146 1)
+    ∷ submit (newPackageSwap northRates "2026-03-03T09:30:00Z" "104999999") (replicate 147 0)
+    ∷ submit (newUnclearedSwap northGrain "2026-03-03T10:16:00Z" "997.5") (replicate 150 32)
+    ∷ submit (inError northRates "2026-03-04T08:00:00Z") (replicate 146 0)
+    ∷ []
+
+-- ---- the right history
+
+abbrev pub southRates : Hidden
+southRates =
+    record {
+      uti = "969500SOUTHBANK00122RATES000000000000000000000000042";
+      settlement = "2034-01-05";
+      allocation = "POST";
+      packageName = "zeta";
+      price = "-101.25";
+      counterparty1 = "894500SOUTHFUND00146";
+      counterparty2 = "969500SOUTHBANK00122";
+    }
+
+abbrev pub southGrain : Hidden
+southGrain =
+    record {
+      uti = "969500SOUTHBANK00122B";
+      settlement = "2027-05-03";
+      allocation = "UNAL";
+      packageName = "eta";
+      price = "-17.5";
+      counterparty1 = "969500SOUTHBANK00122";
+      counterparty2 = "724500SOUTHGRAIN0154";
+    }
+
+-- a ledger of three rows, with bytes to spare
+abbrev pub rightLedger : List ℕ
+rightLedger = replicate 600 255
+
+-- the third message is refused: the swap is not known yet
+unfoldable pub right : List Call
+right =
+    submit (newPackageSwap southRates "2026-03-02T23:59:59Z" "99500000.00001") (replicate 200 255)
+    ∷ submit (extendedPackageSwap southRates "2026-03-03T12:00:00Z" "7000000000000000000") (replicate 149 7)
+    ∷ submit (termination southGrain "2026-03-03T17:45:10Z") (replicate 1000 43)
+    ∷ submit (newUnclearedSwap southGrain "2026-03-03T18:00:00Z" "1049.99999") (replicate 146 10)
+    ∷ submit (inError southRates "2026-03-05T00:00:00Z") (replicate 160 9)
+    ∷ []

@@ -1,0 +1,5 @@
+pub mod Encoding
+pub mod Messages
+pub mod Histories
+pub mod Lines
+pub mod Differences

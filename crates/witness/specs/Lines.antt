@@ -1,0 +1,33 @@
+-- The tape of both histories, written down from document 01, 'The tape line'.
+use Prim.Native.Nat.{ℕ}
+use Prim.Native.String.{String}
+use mathlib.Core.List.{List, [], _∷_, _++_}
+use Rattle.octets.specs.Text.{text}
+use Rattle.ledger.specs.Layout.{newline}
+
+-- the masked terms of the full messages, 93 bytes each
+abbrev pub newTerms : String
+newTerms = "2026-03-02T14:29:58Z2026-03-042031-03-04Y FTT-101.25             1USDIR0000000100000000 USDUS"
+
+abbrev pub extendedTerms : String
+extendedTerms = "2026-03-02T14:29:58Z2026-03-042033-03-04Y FTT-101.25             1USDIR0000000250000000+USDUS"
+
+abbrev pub unclearedTerms : String
+unclearedTerms = "2026-03-03T10:14:30Z2026-04-012027-04-01NTFFF                        CO0000000000001000 EUR  "
+
+-- identifier, previous one, action, event and event time, 52 bytes; terms; newline
+unfoldable pub lineText : String → String → List ℕ
+lineText head terms = text head ++ (text terms ++ (newline ∷ []))
+
+unfoldable pub lines : List (String × String) → List ℕ
+lines [] = []
+lines (l ∷ ls) = lineText (l .0) (l .1) ++ lines ls
+
+unfoldable pub tapeText : List ℕ
+tapeText =
+    lines
+    (("000000000001            NEWTTRAD2026-03-02T14:30:00Z", newTerms)
+    ∷ ("000000000002000000000001MODITRAD2026-03-03T09:00:00Z", extendedTerms)
+    ∷ ("000000000003            NEWTTRAD2026-03-03T10:15:00Z", unclearedTerms)
+    ∷ ("000000000004000000000002EROR    2026-03-04T08:00:00Z", extendedTerms)
+    ∷ [])
