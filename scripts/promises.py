@@ -1,4 +1,4 @@
-"""promises.py PROMISES.md: every name that the document gives exists.
+"""promises.py PROMISES.md: every name that the document gives exists, and what it quotes is the files' text.
 
 A name stands in back quotes and is one of
   crate::module::function          a function of crates/crate/src
@@ -6,6 +6,9 @@ A name stands in back quotes and is one of
   crate/must-fail/label.edit       a must-fail edit of the gate
   vectors#word                     lines of crates/vectors/stdin that open with the word
 Anything else in back quotes is an error, and so is a must-fail edit or a public function that the document does not name.
+
+A quotation is a block that opens with three back quotes and the name of a file, as in crate/specs/File.antt. Its lines must stand in that file, one
+after the other; and the statement of each demand in QUOTED must be quoted whole, to the file's end.
 """
 
 import pathlib
@@ -13,6 +16,9 @@ import re
 import sys
 
 CRATES = pathlib.Path("crates")
+
+# file and first line of what must be quoted
+QUOTED = [("submission/specs/Demand3.antt", "-- ---- the premises")]
 
 
 def text(path):
@@ -62,12 +68,28 @@ def public_functions():
                 yield "%s::%s::%s" % (crate, module, name)
 
 
+def quotation_faults(document):
+    """The quotations are the files' text, and none that is due is missing."""
+    quotations = re.findall(r"^```(\S+)\n(.*?)^```$", document, re.M | re.S)
+    for name, quoted in quotations:
+        if quoted not in (text(CRATES / name) or ""):
+            yield "not the text of the file: the quotation of " + name
+    for name, first in QUOTED:
+        source = text(CRATES / name) or ""
+        at = source.find("\n" + first + "\n")
+        due = source[at + 1 :]
+        if at < 0 or not any(file == name and due in quoted for file, quoted in quotations):
+            yield "not quoted whole: %s from '%s' on" % (name, first)
+
+
 def main(path):
-    document = pathlib.Path(path).read_text(encoding="utf-8")
+    whole = pathlib.Path(path).read_text(encoding="utf-8")
+    document = re.sub(r"^```.*?^```$", "", whole, flags=re.M | re.S)
     names = re.findall(r"`([^`\n]+)`", document)
     faults = ["no such name: " + name for name in sorted(set(names)) if not exists(name)]
     edits = ["%s/must-fail/%s" % (p.parts[1], p.name) for p in sorted(CRATES.glob("*/must-fail/*.edit"))]
     faults += ["not in the document: " + name for name in edits + list(public_functions()) if name not in names]
+    faults += quotation_faults(whole)
     for fault in faults:
         print("%s: %s" % (path, fault), file=sys.stderr)
     if faults:

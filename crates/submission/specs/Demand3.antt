@@ -50,10 +50,13 @@ abbrev pub SameShown : List ℕ → List ℕ → Type 0
 SameShown m₁ m₂ = (value actionCode m₁ ≡ value actionCode m₂) × (value eventType m₁ ≡ value eventType m₂) × (value eventTime m₁ ≡ value eventTime m₂)
 
 pub record Alike (caps : Caps) (js ks : List Judgement) : Type 0 where
+  -- as many calls, and at each place the same verdict number
   pub lengths : length js ≡ length ks
   pub verdicts : (i : ℕ) → i < length js → verdictAt js i ≡ verdictAt ks i
+  -- accepted messages agree in what they show of themselves, and in masked terms
   pub shown : (i : ℕ) → Accepted js i → SameShown (messageAt js i) (messageAt ks i)
   pub terms : (i : ℕ) → Accepted js i → termsAt caps js i ≡ termsAt caps ks i
+  -- two of them name the same swap exactly where their partners do
   pub swaps : (i j : ℕ) → Accepted js i → Accepted js j → (swapOf (messageAt js i) ≡ swapOf (messageAt js j)) ↔ (swapOf (messageAt ks i) ≡ swapOf (messageAt ks j))
 
 -- ---- the claim
@@ -62,7 +65,8 @@ pub record Alike (caps : Caps) (js ks : List Judgement) : Type 0 where
 abbrev pub start : Limits → Caps → List ℕ → List ℕ
 start limits caps l = opened limits caps l .ledger
 
--- two ledgers, of any length, that opening answered with 0, and two lists of calls whose premises hold: the tapes are equal, byte for byte
+-- two ledgers, of any length, that opening answered with 0, and two lists of calls that meet the premises: the tapes are equal, byte for byte. The largest
+-- capacity is one that the header's field can hold
 abbrev pub Same-tapes : Type 0
 Same-tapes =
     (limits : Limits) (caps : Caps) (l₁ l₂ : List ℕ) (h₁ h₂ : List Call)
