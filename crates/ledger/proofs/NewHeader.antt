@@ -4,17 +4,17 @@ use mathlib.Core.Bool.{true}
 use mathlib.Core.Path.{_≡_, refl, sym, ap, _∙_}
 use mathlib.Core.List.{List}
 use native.Mathlib.Omega.{arith}
-use native.Mathlib.Nat.{sub-zero, zero-add}
-use lib.ListN.{length, getD}
+use native.Mathlib.Nat.{sub-zero}
+use lib.ListN.{length, getD, drop}
 use lib.Dec.{lit<}
 use Rattle.octets.specs.Part.{part, splice}
-use Rattle.octets.specs.Fields.{noField}
+use Rattle.octets.specs.Fields.{noField, Placed}
 use Rattle.octets.specs.Number.{fromLe, toLe}
 use Rattle.octets.proofs.ChoiceLaws.{both-first, both-second}
-use Rattle.octets.proofs.PartLaws.{length-splice, part-within}
+use Rattle.octets.proofs.PartLaws.{length-splice}
 use Rattle.octets.proofs.NumberLaws.{length-toLe, fromLe-toLe}
 use Rattle.octets.proofs.FieldLaws.{field-exact}
-use Rattle.octets.proofs.FieldRun.{inPlace, length-bytes, field-inside, field-placed}
+use Rattle.octets.proofs.FieldRun.{inPlace, length-bytes, front-placed, front-later}
 use Rattle.notional.specs.Masking.{isCap}
 use Rattle.notional.proofs.MaskingLaws.{cap-largest}
 use Rattle.ledger.specs.declared.header.Caps.{Caps}
@@ -33,23 +33,25 @@ module _ (caps : Caps) (capacity : ℕ) where
   length-header = omega (arith, length-bytes rowsAt (headerFields caps capacity) headerSize header-in-place)
 
 module _ (caps : Caps) (capacity : ℕ) (l : List ℕ) (room : headerSize ≤ length l) where
-  opened : List ℕ
-  opened = splice l rowsAt (newHeader caps capacity)
-
   fits : rowsAt + length (newHeader caps capacity) ≤ length l
   fits = omega (arith, length-header caps capacity)
 
   pub opened-length : length (splice l rowsAt (newHeader caps capacity)) ≡ length l
   opened-length = length-splice l (newHeader caps capacity) rowsAt fits
 
+  -- each field stands at document 01's offset, and later bytes stay
+  pub opened-placed : Placed rowsAt (headerFields caps capacity) (splice l rowsAt (newHeader caps capacity))
+  unfolding newHeader
+  opened-placed = front-placed (headerFields caps capacity) headerSize l (header-in-place caps capacity) room
+
+  pub opened-later : drop headerSize (splice l rowsAt (newHeader caps capacity)) ≡ drop headerSize l
+  unfolding newHeader
+  opened-later = front-later (headerFields caps capacity) headerSize l (header-in-place caps capacity)
+
   -- a field whose text is as long as it is read back
   read-back : (k : ℕ) → k < length (headerFields caps capacity) → length (getD (headerFields caps capacity) k noField .2) ≡ getD (headerFields caps capacity) k noField .1
       → part (splice l rowsAt (newHeader caps capacity)) (getD (headerFields caps capacity) k noField .0) (getD (headerFields caps capacity) k noField .1) ≡ getD (headerFields caps capacity) k noField .2
-  unfolding newHeader
-  read-back k h size =
-      (rw zero-add at (part-within l (newHeader caps capacity) rowsAt fits (getD (headerFields caps capacity) k noField .0) (getD (headerFields caps capacity) k noField .1) (omega (arith, length-header caps capacity, field-inside rowsAt (headerFields caps capacity) headerSize k (header-in-place caps capacity) h))))
-      ∙ (rw sub-zero at (field-placed rowsAt (headerFields caps capacity) headerSize (header-in-place caps capacity) k h))
-      ∙ field-exact _ _ size
+  read-back k h size = (rw sub-zero at (opened-placed k h)) ∙ field-exact _ _ size
 
   pub opened-rows : rowsInUse (splice l rowsAt (newHeader caps capacity)) ≡ 0
   unfolding rowsInUse headerFields

@@ -3,7 +3,7 @@ use Prim.Native.Nat.{ℕ, zero, suc, _+_, _-_, _≤_, _<_}
 use mathlib.Core.Bool.{Bool, true}
 use mathlib.Core.Path.{_≡_, refl, sym, ap, _∙_}
 use mathlib.Core.List.{List, [], _∷_, _++_}
-use native.Mathlib.Nat.{not-suc-le-zero, le-of-suc-le-suc}
+use native.Mathlib.Nat.{not-suc-le-zero, le-of-suc-le-suc, zero-add}
 use native.Mathlib.Omega.{arith}
 use borrow.Author.Tests.{eqb-true}
 use lib.ListN.{length, getD, take, drop, length-append}
@@ -13,7 +13,7 @@ use Rattle.octets.specs.Choice.{both}
 use Rattle.octets.specs.Part.{splice}
 use Rattle.octets.specs.Field.{field}
 use Rattle.octets.proofs.ChoiceLaws.{both-first, both-second}
-use Rattle.octets.proofs.PartLaws.{length-splice, splice-splice, splice-none, splice-all}
+use Rattle.octets.proofs.PartLaws.{length-splice, part-within, splice-splice, splice-none, splice-all}
 use Rattle.octets.proofs.FieldLaws.{length-field, field-exact}
 use Rattle.octets.specs.Fields.{FieldAt, bytesOf, written, noField, Placed}
 
@@ -119,3 +119,21 @@ pub field-inside : (at : ℕ) (fs : List FieldAt) (end k : ℕ) → inPlace at f
 field-inside at [] end k ok h = absurd (not-suc-le-zero h)
 field-inside at (f ∷ fs) end zero ok h = omega (arith, head-place at f fs end ok, length-bytes (at + f .1) fs end (tail-place at f fs end ok))
 field-inside at (f ∷ fs) end (suc k) ok h = field-inside (at + f .1) fs end k (tail-place at f fs end ok) (le-of-suc-le-suc h)
+
+-- ---- a layout at the front of longer bytes
+
+module _ (fs : List FieldAt) (end : ℕ) (d : List ℕ) (ok : inPlace 0 fs end ≡ true) where
+  long : length (bytesOf fs) ≡ end
+  long = omega (arith, length-bytes 0 fs end ok)
+
+  -- each field stands at its offset
+  pub front-placed : end ≤ length d → Placed 0 fs (splice d 0 (bytesOf fs))
+  front-placed h k l =
+      let o : ℕ = getD fs k noField .0 - 0 in
+      let n : ℕ = getD fs k noField .1 in
+      (rw zero-add at (part-within d (bytesOf fs) 0 (omega (arith, long)) o n (omega (arith, long, field-inside 0 fs end k ok l)))) ∙ field-placed 0 fs end ok k l
+
+  -- later bytes stay
+  pub front-later : drop end (splice d 0 (bytesOf fs)) ≡ drop end d
+  unfolding splice
+  front-later = drop-at (bytesOf fs) (drop (0 + length (bytesOf fs)) d) end long ∙ rw (zero-add, long)

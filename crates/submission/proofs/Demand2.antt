@@ -2,21 +2,19 @@
 use Prim.Native.Nat.{ℕ, _+_, _-_, _^_, _<_, _≤_}
 use mathlib.Core.Bool.{Bool, true, false, not, false≢true}
 use mathlib.Core.Path.{_≡_, refl, sym, ap, ap₂, _∙_, subst}
-use mathlib.Core.List.{List, _++_}
+use mathlib.Core.List.{List, [], _∷_, _++_}
 use native.Mathlib.Omega.{arith}
-use native.Mathlib.Nat.{zero-add}
 use lib.ListN.{length, getD, drop}
-use lib.Seq.{drop-at}
-use lib.Dec.{eqb, leb}
-use borrow.Author.Tests.{eqb-false, ne-eqb, leb-true, le-leb, le-ltb}
+use lib.Dec.{eqb, leb, ltb}
+use borrow.Author.Tests.{eqb-false, eq-eqb, ne-eqb, leb-true, le-leb, ltb-true, ltb-false, le-ltb}
 use Rattle.octets.specs.Choice.{choose, both}
-use Rattle.octets.specs.Part.{part, splice}
-use Rattle.octets.specs.Fields.{FieldAt, noField, Placed}
+use Rattle.octets.specs.Part.{splice}
+use Rattle.octets.specs.Fields.{Placed}
 use Rattle.octets.specs.Same.{sameBytes}
 use Rattle.octets.proofs.ChoiceLaws.{both-first, both-second}
 use Rattle.octets.proofs.SameLaws.{same-true, same-refl}
-use Rattle.octets.proofs.PartLaws.{length-splice, part-within, byte-apart}
-use Rattle.octets.proofs.FieldRun.{field-inside}
+use Rattle.octets.proofs.PartLaws.{length-splice, byte-apart}
+use Rattle.octets.proofs.FieldRun.{front-placed, front-later}
 use Rattle.values.specs.Run.{within}
 use Rattle.message.specs.Values.{value}
 use Rattle.terms.specs.Terms.{termsSize}
@@ -26,26 +24,32 @@ use Rattle.actions.specs.declared.Checked.{Checked}
 use Rattle.actions.specs.declared.Checked.the-variants.{Value}
 use Rattle.actions.specs.Actions.{isFull, isNew, writesLine}
 use Rattle.actions.specs.Statuses.{live, ported, nextStatus, repeatsTime}
-use Rattle.elements.specs.Codes.{executionTime}
-use Rattle.rules.specs.Findings.{Finding, passed, firstBroken}
+use Rattle.elements.specs.Codes.{uti, executionTime}
+use Rattle.elements.specs.Forms.{hasForm}
+use Rattle.rules.specs.Verdicts.{formBroken}
+use Rattle.rules.specs.Findings.{Finding, passed, broken, brokenIf, firstBroken}
 use Rattle.rules.specs.Rules.{rulesFor, rulesOf, verdict}
 use Rattle.rules.proofs.FindingLaws.{numberAt, findingAt, broken-first, first-broken, none-broken, passed-then}
 use Rattle.rules.proofs.VerdictLaws as message
-use Rattle.ledger.specs.Layout.{u32, u64, rowsAt, nextAt, lengthAt, identifierAt, rowSize, rowStart, lineSize, lastIdentifier}
-use Rattle.ledger.specs.Header.{rowsInUse, nextIdentifier, capacityIn, capsIn}
+use Rattle.ledger.specs.Layout.{u32, u64, rowsAt, nextAt, lengthAt, identifierAt, headerSize, rowSize, rowStart, shortestLedger, lineSize, lastIdentifier}
+use Rattle.ledger.specs.Header.{rowsInUse, nextIdentifier, capacityIn, capsIn, areCaps, capacityFor, headerRight}
 use Rattle.ledger.specs.Rows.{rowAt, statusOf, identifierOf, storedTerms, storedTime, isKnown, swapRow, swapStatus, swapIdentifier, newRow, rowAfter}
 use Rattle.ledger.specs.Line.{lineFields, line}
+use Rattle.ledger.proofs.NewHeader as new
 use Rattle.ledger.proofs.RightHeader.{header-right, rows-fit}
 use Rattle.ledger.proofs.RowAfterLaws.{row-placed}
 use Rattle.ledger.proofs.RowFields.{after-status, after-identifier, after-terms, after-kept, after-tail}
 use Rattle.ledger.proofs.ReadBack.{raised-byte}
-use Rattle.ledger.proofs.LineLaws.{line-in-place, length-line, line-placed}
-use Rattle.submission.specs.Opening.{Limits}
+use Rattle.ledger.proofs.LineLaws.{line-in-place, length-line}
+use Rattle.submission.specs.Verdicts.{ledgerShort, capWrong, ledgerWrong, rowWrong}
+use Rattle.submission.specs.Opening.{Limits, openingRules, openingVerdict, opened}
+use Rattle.submission.specs.Status.{statusRules, asked}
 use Rattle.submission.specs.Submission.{submitted, swapOf, actionIn, rowRight, hasWrongRow, isNotAdmitted, hasOtherTime, findsFull, findsSpent, swapRules, submissionRules, rulesOn, verdictOn, maskedTerms, termsFor, placeFor, rowFor, ledgerFor, lineFor}
-use Rattle.submission.specs.Demand2.{Verdict-exactly, Checking-order, RightRow, Sound, Accepted-exactly, Outside, LedgerWritten, TapeWritten, Acceptance-writes}
+use Rattle.submission.specs.Demand2.{Verdict-exactly, Checking-order, RightRow, Sound, Accepted-exactly, Outside, LedgerWritten, TapeWritten, Acceptance-writes, OpeningExactly, Opening-exactly, Opening-writes, QuestionExactly, Question-exactly}
 use Rattle.submission.proofs.Acceptance.{not-not, both-false, numbers-differ, Accepting, accepting, Fits, row-test, status-test, time-test, message-passes, room-test, spent-test}
 use Rattle.submission.proofs.Lookup.{is-newt, row-whole, length-shown, length-after, ledger-length, new-place, rows-raised, next-raised, row-written}
 use Rattle.submission.proofs.Turn.{Accepts, accepts, verdict-is}
+use Rattle.submission.proofs.Opened.{long-enough, start-is}
 use Rattle.submission.proofs.Demand1.{element-is}
 
 -- ---- the verdict
@@ -234,22 +238,13 @@ module _ (limits : Limits) (l t m : List ℕ) (a : Action) (f : Fits limits l t 
   unfolding lineFor
   line-fits = omega (arith, length-line a (nextIdentifier l) (swapIdentifier l (swapOf m)) m (termsFor a l m), f .tape)
 
-  line-long : length (lineFor a l m) ≡ lineSize
-  unfolding lineFor
-  line-long = length-line a (nextIdentifier l) (swapIdentifier l (swapOf m)) m (termsFor a l m)
-
   placed : Placed 0 (lineFields a (nextIdentifier l) (swapIdentifier l (swapOf m)) m (termsFor a l m)) (splice t 0 (lineFor a l m))
-  unfolding lineFor
-  placed k h =
-      let fs : List FieldAt = lineFields a (nextIdentifier l) (swapIdentifier l (swapOf m)) m (termsFor a l m) in
-      let inside : getD fs k noField .0 + getD fs k noField .1 ≤ lineSize = field-inside 0 fs lineSize k (line-in-place a (nextIdentifier l) (swapIdentifier l (swapOf m)) m (termsFor a l m)) h in
-      let there : part (splice t 0 (lineFor a l m)) (getD fs k noField .0 - 0) (getD fs k noField .1) ≡ part (lineFor a l m) (getD fs k noField .0 - 0) (getD fs k noField .1) =
-      rw zero-add at (part-within t (lineFor a l m) 0 line-fits (getD fs k noField .0 - 0) (getD fs k noField .1) (omega (arith, line-long))) in
-      there ∙ line-placed a (nextIdentifier l) (swapIdentifier l (swapOf m)) m (termsFor a l m) k h
+  unfolding lineFor line
+  placed = front-placed (lineFields a (nextIdentifier l) (swapIdentifier l (swapOf m)) m (termsFor a l m)) lineSize t (line-in-place a (nextIdentifier l) (swapIdentifier l (swapOf m)) m (termsFor a l m)) (f .tape)
 
   later-bytes : drop lineSize (splice t 0 (lineFor a l m)) ≡ drop lineSize t
-  unfolding splice
-  later-bytes = drop-at (lineFor a l m) (drop (0 + length (lineFor a l m)) t) lineSize line-long ∙ rw (zero-add, line-long)
+  unfolding lineFor line
+  later-bytes = front-later (lineFields a (nextIdentifier l) (swapIdentifier l (swapOf m)) m (termsFor a l m)) lineSize t (line-in-place a (nextIdentifier l) (swapIdentifier l (swapOf m)) m (termsFor a l m))
 
   tape-written : TapeWritten a l t m (choose (writesLine a) (splice t 0 (lineFor a l m)) t)
   tape-written = by (writesLine a) refl
@@ -268,3 +263,81 @@ acceptance-writes limits l t m small v =
       tape = rw (ap (λ s. s .tape) (c .answer)) (tape-written limits l t m (c .action) (c .fitting) small);
       identifier = ap (λ s. s .identifier) (c .answer);
     }
+
+-- ---- opening
+
+pub opening-exactly : Opening-exactly
+unfolding opened openingVerdict openingRules firstBroken
+opening-exactly limits caps l = by (ltb (length l) shortestLedger) refl (areCaps caps) refl
+  where
+    by : (a : Bool) → ltb (length l) shortestLedger ≡ a → (b : Bool) → areCaps caps ≡ b → OpeningExactly caps l (firstBroken ((ledgerShort, brokenIf a) ∷ (capWrong, brokenIf (not b)) ∷ []) .0)
+    by true e b f =
+        let short : length l < shortestLedger = ltb-true _ _ e in
+        record {
+          short = (λ z. short, λ p. refl);
+          cap = (λ z. absurd (omega arith), λ p. absurd (omega (arith, short, p .0)));
+          accepted = (λ z. absurd (omega arith), λ p. absurd (omega (arith, short, p .0)));
+        }
+    by false e false f =
+        let long : shortestLedger ≤ length l = ltb-false _ _ e in
+        record {
+          short = (λ z. absurd (omega arith), λ p. absurd (omega (arith, long, p)));
+          cap = (λ z. (long, f), λ p. refl);
+          accepted = (λ z. absurd (omega arith), λ p. absurd (false≢true (sym f ∙ p .1)));
+        }
+    by false e true f =
+        let long : shortestLedger ≤ length l = ltb-false _ _ e in
+        record {
+          short = (λ z. absurd (omega arith), λ p. absurd (omega (arith, long, p)));
+          cap = (λ z. absurd (omega arith), λ p. absurd (false≢true (sym (p .1) ∙ f)));
+          accepted = (λ z. (long, f), λ p. refl);
+        }
+
+pub opening-writes : Opening-writes
+opening-writes limits caps l v =
+    let capacity : ℕ = capacityFor (limits .largest) (length l) in
+    let room : headerSize ≤ length l = omega (arith, long-enough limits caps l v) in
+    rw (start-is limits caps l v)
+    (record {
+      header = new.opened-placed caps capacity l room;
+      later = new.opened-later caps capacity l room;
+      long = new.opened-length caps capacity l room;
+    })
+
+-- ---- the status question
+
+pub question-exactly : Question-exactly
+unfolding asked statusRules firstBroken
+question-exactly limits l u =
+    (by (headerRight (limits .largest) l) refl (hasForm uti u) refl (hasWrongRow l u) refl, λ v. rw (eq-eqb _ 0 v) (refl, refl))
+  where
+    by : (a : Bool) → headerRight (limits .largest) l ≡ a → (b : Bool) → hasForm uti u ≡ b → (c : Bool) → hasWrongRow l u ≡ c
+        → QuestionExactly limits l u (firstBroken ((ledgerWrong, brokenIf (not a)) ∷ (formBroken, choose b passed (broken uti)) ∷ (rowWrong, brokenIf c) ∷ []) .0)
+    by false e b f c g =
+        record {
+          ledger = (λ z. e, λ p. refl);
+          form = (λ z. absurd (omega arith), λ p. absurd (false≢true (sym e ∙ p .0)));
+          row = (λ z. absurd (omega arith), λ p. absurd (false≢true (sym e ∙ p .0)));
+          accepted = (λ z. absurd (omega arith), λ p. absurd (false≢true (sym e ∙ p .0)));
+        }
+    by true e false f c g =
+        record {
+          ledger = (λ z. absurd (omega arith), λ p. absurd (false≢true (sym p ∙ e)));
+          form = (λ z. (e, f), λ p. refl);
+          row = (λ z. absurd (omega arith), λ p. absurd (false≢true (sym f ∙ p .1)));
+          accepted = (λ z. absurd (omega arith), λ p. absurd (false≢true (sym f ∙ p .1)));
+        }
+    by true e true f true g =
+        record {
+          ledger = (λ z. absurd (omega arith), λ p. absurd (false≢true (sym p ∙ e)));
+          form = (λ z. absurd (omega arith), λ p. absurd (false≢true (sym (p .1) ∙ f)));
+          row = (λ z. (e, f, g), λ p. refl);
+          accepted = (λ z. absurd (omega arith), λ p. absurd (false≢true (sym (p .2) ∙ g)));
+        }
+    by true e true f false g =
+        record {
+          ledger = (λ z. absurd (omega arith), λ p. absurd (false≢true (sym p ∙ e)));
+          form = (λ z. absurd (omega arith), λ p. absurd (false≢true (sym (p .1) ∙ f)));
+          row = (λ z. absurd (omega arith), λ p. absurd (false≢true (sym g ∙ p .2)));
+          accepted = (λ z. (e, f, g), λ p. refl);
+        }

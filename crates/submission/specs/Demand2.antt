@@ -13,18 +13,23 @@ use Rattle.actions.specs.declared.Action.{Action}
 use Rattle.actions.specs.declared.Checked.the-variants.{Value}
 use Rattle.actions.specs.Actions.{isFull, isNew, writesLine}
 use Rattle.actions.specs.Statuses.{live, ported, noStep, nextStatus, repeatsTime}
-use Rattle.elements.specs.Codes.{executionTime}
+use Rattle.elements.specs.Codes.{uti, executionTime}
+use Rattle.elements.specs.Forms.{hasForm}
+use Rattle.rules.specs.Verdicts.{formBroken}
 use Rattle.rules.specs.Rules.{verdict}
 use Rattle.rules.proofs.FindingLaws.{numberAt, FirstBroken}
-use Rattle.ledger.specs.Layout.{u32, u64, rowsAt, nextAt, statusAt, lengthAt, identifierAt, tailAt, tailSize, rowSize, rowStart, lineSize, lastIdentifier}
-use Rattle.ledger.specs.Header.{rowsInUse, nextIdentifier, capacityIn, capsIn}
+use Rattle.ledger.specs.declared.header.Caps.{Caps}
+use Rattle.ledger.specs.Layout.{u32, u64, rowsAt, nextAt, statusAt, lengthAt, identifierAt, tailAt, tailSize, headerSize, rowSize, rowStart, shortestLedger, lineSize, lastIdentifier}
+use Rattle.ledger.specs.Header.{rowsInUse, nextIdentifier, capacityIn, capsIn, areCaps, capacityFor, headerRight, headerFields}
 use Rattle.ledger.specs.Rows.{rowAt, statusOf, identifierOf, storedTerms, storedTime, isKnown, swapRow, swapStatus, swapIdentifier, rowFields}
 use Rattle.ledger.specs.Line.{lineFields}
 use Rattle.ledger.proofs.RightHeader.{RightHeader}
-use Rattle.submission.specs.Opening.{Limits}
-use Rattle.submission.specs.Submission.{Submitted, submitted, swapOf, actionIn, rulesOn, submissionRules, maskedTerms, termsFor, placeFor}
+use Rattle.submission.specs.Verdicts.{ledgerShort, capWrong, ledgerWrong, rowWrong}
+use Rattle.submission.specs.Opening.{Limits, opened}
+use Rattle.submission.specs.Status.{asked}
+use Rattle.submission.specs.Submission.{Submitted, submitted, swapOf, actionIn, hasWrongRow, rulesOn, submissionRules, maskedTerms, termsFor, placeFor}
 
--- ---- the verdict
+-- ---- the verdict of a submission
 
 -- verdict and element are those of a rule exactly where the rule is broken and no earlier one is
 abbrev pub Verdict-exactly : Type 0
@@ -103,3 +108,38 @@ pub record Written (l t m : List ℕ) (s : Submitted) : Type 0 where
 
 abbrev pub Acceptance-writes : Type 0
 Acceptance-writes = (limits : Limits) (l t m : List ℕ) → limits .largest < 256 ^ u32 → submitted limits l t m .verdict ≡ 0 → Written l t m (submitted limits l t m)
+
+-- ---- opening
+
+-- 1, then 2
+pub record OpeningExactly (caps : Caps) (l : List ℕ) (v : ℕ) : Type 0 where
+  pub short : (v ≡ ledgerShort) ↔ (length l < shortestLedger)
+  pub cap : (v ≡ capWrong) ↔ ((shortestLedger ≤ length l) × (areCaps caps ≡ false))
+  pub accepted : (v ≡ 0) ↔ ((shortestLedger ≤ length l) × (areCaps caps ≡ true))
+
+abbrev pub Opening-exactly : Type 0
+Opening-exactly = (limits : Limits) (caps : Caps) (l : List ℕ) → OpeningExactly caps l (opened limits caps l .verdict)
+
+-- the header, field by field, and every later byte
+pub record HeaderWritten (limits : Limits) (caps : Caps) (l l′ : List ℕ) : Type 0 where
+  pub header : Placed rowsAt (headerFields caps (capacityFor (limits .largest) (length l))) l′
+  pub later : drop headerSize l′ ≡ drop headerSize l
+  pub long : length l′ ≡ length l
+
+abbrev pub Opening-writes : Type 0
+Opening-writes = (limits : Limits) (caps : Caps) (l : List ℕ) → opened limits caps l .verdict ≡ 0 → HeaderWritten limits caps l (opened limits caps l .ledger)
+
+-- ---- the status question
+
+-- 3, then 9, then 14
+pub record QuestionExactly (limits : Limits) (l u : List ℕ) (v : ℕ) : Type 0 where
+  pub ledger : (v ≡ ledgerWrong) ↔ (headerRight (limits .largest) l ≡ false)
+  pub form : (v ≡ formBroken) ↔ ((headerRight (limits .largest) l ≡ true) × (hasForm uti u ≡ false))
+  pub row : (v ≡ rowWrong) ↔ ((headerRight (limits .largest) l ≡ true) × (hasForm uti u ≡ true) × (hasWrongRow l u ≡ true))
+  pub accepted : (v ≡ 0) ↔ ((headerRight (limits .largest) l ≡ true) × (hasForm uti u ≡ true) × (hasWrongRow l u ≡ false))
+
+abbrev pub Question-exactly : Type 0
+Question-exactly =
+    (limits : Limits) (l u : List ℕ)
+    → QuestionExactly limits l u (asked limits l u .verdict)
+    × (asked limits l u .verdict ≡ 0 → (asked limits l u .status ≡ swapStatus l u) × (asked limits l u .identifier ≡ swapIdentifier l u))
