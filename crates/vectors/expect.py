@@ -3,6 +3,8 @@ itself, " -> " and the answer that document 01 gives.
 
 A line is a word, one space and the rest, or the word alone (an empty value).
 A rest that opens with '#' is lower-case hexadecimal; any other is plain text.
+Where a word takes several fields, one space stands between them. The answer
+'?' says that the question is not one.
 """
 
 import sys
@@ -483,7 +485,194 @@ def masked_terms(cap, message):
     return b"".join(value.ljust(length) for length, value in fields)
 
 
+TERMS_LENGTH = 93
+LINE_LENGTH = 146
+IDENTIFIER_LENGTH = 12
+NEWLINE = b"\n"
+
+
+# The tape line: 0,12, "decimal, zero padded"
+def shown_identifier(identifier):
+    return b"%0*d" % (IDENTIFIER_LENGTH, identifier)
+
+
+# The tape line: 12,12, "the previous one of this swap, blank for NEWT"
+def shown_previous(action, previous):
+    return b"" if action == b"NEWT" else shown_identifier(previous)
+
+
+# The tape line: left aligned, spaces for what is missing, cut where the field
+# ends (DECISIONS, "How is a field of the line defined?")
+def field(length, text):
+    return text[:length].ljust(length)
+
+
+# The tape line: "Action, event and event time are codes 2, 3 (or its absence)
+# and 4"
+def tape_line(action, identifier, previous, message, terms):
+    fields = [
+        (IDENTIFIER_LENGTH, shown_identifier(identifier)),
+        (IDENTIFIER_LENGTH, shown_previous(action, previous)),
+        (4, shown(message, 2)),
+        (4, shown(message, 3)),
+        (TIME_LENGTH, shown(message, 4)),
+        (TERMS_LENGTH, terms),
+    ]
+    return b"".join(field(length, text) for length, text in fields) + NEWLINE
+
+
+# The tape line: "A line takes the first 146 bytes of the tape buffer; later
+# bytes stay"; PRTO writes "no byte of the tape buffer"
+def tape_after(action, line, buffer):
+    if not writes_line(action):
+        return buffer
+    return line + buffer[LINE_LENGTH:]
+
+
+# ------------------------------------------------------------------ The ledger
+
+# The ledger: the header's numbers, each by offset and size
+ROWS_IN_USE = (0, 4)
+FIRST_ROW = (4, 4)
+NEXT_IDENTIFIER = (8, 8)
+CAPS = [(16, 8), (24, 8), (32, 8), (40, 8), (48, 8)]
+ROW_SIZE_FIELD = (56, 4)
+CAPACITY = (60, 4)
+
+HEADER_SIZE = 64
+ROW_SIZE = 160
+LOWEST_NEXT = 1
+HIGHEST_NEXT = 1_000_000_000_000
+CLASSES_IN_ORDER = [b"CR", b"IR", b"FX", b"EQ", b"CO"]
+
+# The ledger: the row's parts by offset; the zeros are the last five bytes
+STATUS_AT = 0
+UTI_LENGTH_AT = 1
+UTI_AT = 2
+LAST_IDENTIFIER_AT = 54
+LAST_IDENTIFIER_SIZE = 8
+TERMS_AT = 62
+ZEROS = 5
+
+
+# "Integers are little-endian"
+def number_in(data, place):
+    at, size = place
+    return int.from_bytes(data[at:at + size], "little")
+
+
+# "Integers are little-endian"
+def bytes_of(number, size):
+    return number.to_bytes(size, "little")
+
+
+# The ledger: "Nothing else moves"
+def replaced(data, at, new):
+    return data[:at] + new + data[at + len(new):]
+
+
+# The ledger: 60, "(length - 64) divided by 160, rounded down"; a ledger that
+# ends within the header has no row
+def whole_rows(length):
+    return max(length - HEADER_SIZE, 0) // ROW_SIZE
+
+
+# The ledger: 60, "or 100,000 where that is less"
+def capacity(largest, length):
+    rows = whole_rows(length)
+    return largest if largest < rows else rows
+
+
+# The ledger: 16, "five u64 caps in the order CR, IR, FX, EQ, CO"
+def cap_of_class(asset_class, caps):
+    if asset_class not in CLASSES_IN_ORDER:
+        return 0
+    return caps[CLASSES_IN_ORDER.index(asset_class)]
+
+
+def start_of_row(place):
+    return HEADER_SIZE + ROW_SIZE * place
+
+
+def row_at(ledger, place):
+    return ledger[start_of_row(place):start_of_row(place + 1)]
+
+
+# The ledger: "equal length and that many equal UTI bytes"; "padding is not
+# compared"
+def is_row_of(row, uti):
+    return (row[UTI_LENGTH_AT] == len(uti) <= UTI_LONGEST
+            and row[UTI_AT:UTI_AT + len(uti)] == uti)
+
+
+# The ledger: "The first of the used rows"
+def place_of(ledger, rows, uti):
+    for place in range(rows):
+        if is_row_of(row_at(ledger, place), uti):
+            return place
+    return rows
+
+
+# The ledger: "NEWT writes the whole next row"
+def new_row(status, identifier, uti, terms):
+    return (bytes([status, len(uti)])
+            + uti.ljust(UTI_LONGEST)
+            + bytes_of(identifier, LAST_IDENTIFIER_SIZE)
+            + terms
+            + bytes(ZEROS))
+
+
+# The ledger: "Any other full action writes status, terms and identifier; TERM
+# and EROR status and identifier; PRTO only the status"
+def row_after(action, row, status, identifier, uti, terms):
+    if action == b"NEWT":
+        return new_row(status, identifier, uti, terms)
+    row = replaced(row, STATUS_AT, bytes([status]))
+    if action != b"PRTO":
+        row = replaced(row, LAST_IDENTIFIER_AT,
+                       bytes_of(identifier, LAST_IDENTIFIER_SIZE))
+    if action in FULL_ACTIONS:
+        row = replaced(row, TERMS_AT, terms)
+    return row
+
+
+# The ledger: "raises rows in use by one"; "Each line takes the header's next
+# identifier, which then rises by one"
+def header_after(action, ledger):
+    raised = []
+    if action == b"NEWT":
+        raised.append(ROWS_IN_USE)
+    if writes_line(action):
+        raised.append(NEXT_IDENTIFIER)
+    for at, size in raised:
+        number = number_in(ledger, (at, size)) + 1
+        ledger = replaced(ledger, at, bytes_of(number, size))
+    return ledger
+
+
 # ------------------------------------------------------------ Verdict numbers
+
+SHORTEST_LEDGER = 224
+
+
+# Verdict numbers, 3: "The ledger is shorter than 224 bytes, or its header
+# breaks the layout above, has more rows than capacity or has a cap that 2
+# refuses"
+def ledger_is_refused(largest, ledger):
+    if len(ledger) < SHORTEST_LEDGER:
+        return True
+    if number_in(ledger, FIRST_ROW) != HEADER_SIZE:
+        return True
+    if not LOWEST_NEXT <= number_in(ledger, NEXT_IDENTIFIER) <= HIGHEST_NEXT:
+        return True
+    if number_in(ledger, ROW_SIZE_FIELD) != ROW_SIZE:
+        return True
+    if number_in(ledger, CAPACITY) != capacity(largest, len(ledger)):
+        return True
+    if number_in(ledger, ROWS_IN_USE) > number_in(ledger, CAPACITY):
+        return True
+    return not all(is_cap(number_in(ledger, place)) for place in CAPS)
+
 
 PRICE_DIGITS_OF_NOTATION_3 = 11
 PRICE_AFTER_POINT_OF_NOTATION_3 = 10
@@ -558,7 +747,12 @@ HIGHEST_ASKED_IN_MESSAGE = 99
 HIGHEST_ASKED_OF_ACTION = 30
 HIGHEST_ASKED_STATUS = 9
 HIGHEST_ASKED_AS_CAP = 2 ** 64 - 1
+HIGHEST_U64 = 2 ** 64 - 1
+HIGHEST_U32 = 2 ** 32 - 1
+HIGHEST_BYTE = 255
+HIGHEST_IN_LINE = 10 ** IDENTIFIER_LENGTH - 1
 MISSING = "-"
+NO_QUESTION = "?"
 END_OF_TERMS = b"|"
 
 FORMS = {
@@ -710,6 +904,79 @@ def answer_verdict(rest):
     return "%d %d" % verdict(read_hex(rest))
 
 
+def write_hex(data):
+    return "#" + data.hex()
+
+
+def answer_capacity(rest):
+    largest, length = read_fields(rest, [2])
+    return str(capacity(read_number(largest, HIGHEST_U32),
+                        read_number(length, HIGHEST_U64)))
+
+
+def answer_capof(rest):
+    fields = read_fields(rest, [6])
+    caps = [read_number(text, HIGHEST_U64) for text in fields[1:]]
+    return str(cap_of_class(fields[0], caps))
+
+
+def answer_header(rest):
+    largest, text = read_fields(rest, [2])
+    largest = read_number(largest, HIGHEST_U32)
+    ledger = read_hex(text)
+    if ledger_is_refused(largest, ledger):
+        return "3"
+    places = [ROWS_IN_USE, NEXT_IDENTIFIER, CAPACITY] + CAPS
+    return " ".join(["0"] + [str(number_in(ledger, place)) for place in places])
+
+
+def answer_place(rest):
+    rows, uti, text = read_fields(rest, [3])
+    rows = read_number(rows, HIGHEST_U32)
+    ledger = read_hex(text)
+    if whole_rows(len(ledger)) < rows:
+        return NO_QUESTION
+    return str(place_of(ledger, rows, uti))
+
+
+def answer_row(rest):
+    place, action, status, identifier, uti, terms, text = read_fields(rest, [7])
+    place = read_number(place, HIGHEST_U32)
+    status = read_number(status, HIGHEST_BYTE)
+    identifier = read_number(identifier, HIGHEST_U64)
+    terms, ledger = read_hex(terms), read_hex(text)
+    if (action not in ACTIONS or len(uti) > UTI_LONGEST
+            or len(terms) != TERMS_LENGTH or whole_rows(len(ledger)) <= place):
+        return NO_QUESTION
+    row = row_after(action, row_at(ledger, place), status, identifier, uti, terms)
+    return write_hex(replaced(ledger, start_of_row(place), row))
+
+
+def answer_raise(rest):
+    action, text = read_fields(rest, [2])
+    ledger = read_hex(text)
+    if (action not in ACTIONS or len(ledger) < HEADER_SIZE
+            or number_in(ledger, NEXT_IDENTIFIER) > HIGHEST_NEXT):
+        return NO_QUESTION
+    if action == b"NEWT" and number_in(ledger, ROWS_IN_USE) == HIGHEST_U32:
+        raise Malformed("rows in use cannot rise")
+    return write_hex(header_after(action, ledger))
+
+
+def answer_tape(rest):
+    action, identifier, previous, text, terms, buffer = read_fields(rest, [6])
+    identifier = read_number(identifier, HIGHEST_IN_LINE)
+    previous = read_number(previous, HIGHEST_IN_LINE)
+    message, terms, buffer = read_hex(text), read_hex(terms), read_hex(buffer)
+    if not layout_is_right(message):
+        raise Malformed("a line is asked of a message whose layout is wrong")
+    if (action not in ACTIONS or len(terms) != TERMS_LENGTH
+            or len(buffer) < LINE_LENGTH):
+        return NO_QUESTION
+    line = tape_line(action, identifier, previous, message, terms)
+    return write_hex(tape_after(action, line, buffer))
+
+
 QUESTIONS = {
     b"layout": answer_layout,
     b"element": answer_element,
@@ -723,6 +990,13 @@ QUESTIONS = {
     b"shown": answer_shown,
     b"terms": answer_terms,
     b"verdict": answer_verdict,
+    b"capacity": answer_capacity,
+    b"capof": answer_capof,
+    b"header": answer_header,
+    b"place": answer_place,
+    b"row": answer_row,
+    b"raise": answer_raise,
+    b"tape": answer_tape,
 }
 
 

@@ -3,8 +3,10 @@
 ghost use Prim.Native.Nat.{_≤_};
 ghost use lib.ListN.{length};
 
+mod fields;
 mod forms;
 mod hex;
+mod ledgers;
 mod lines;
 mod tables;
 
@@ -18,6 +20,9 @@ const LINES: usize = 1_000_000;
 
 // The longest message.
 const LONGEST_MESSAGE: usize = 2048;
+
+// The numbers that fit 16 bits, as a code does.
+const CODES: u64 = 65_536;
 
 fn main() {
     let mut left: usize = LINES;
@@ -114,6 +119,11 @@ fn answer(word: &[u8], rest: &[u8]) {
         lines::answer(line, rest);
         return;
     }
+    let ledger = ledgers::place(word);
+    if ledger < ledgers::COUNT {
+        ledgers::answer(ledger, rest);
+        return;
+    }
     if octets::same(word, b"element") {
         answer_element(rest);
         return;
@@ -125,7 +135,7 @@ fn answer(word: &[u8], rest: &[u8]) {
 fn answer_form(form: usize, rest: &[u8]) {
     if octets::byte_at(rest, 0) == b'#' {
         let mut bytes = [0u8; hex::LONGEST];
-        let n = hex::decode(part_of(rest, 1, rest.len()), &mut bytes);
+        let n = fields::bytes_at(rest, 0, &mut bytes);
         forms::answer(form, part_of(&bytes, 0, n));
         return;
     }
@@ -134,9 +144,8 @@ fn answer_form(form: usize, rest: &[u8]) {
 
 // The rest is a code, a space, # and a message.
 fn answer_element(rest: &[u8]) {
-    let n = place_of(rest, b' ');
     let mut bytes = [0u8; hex::LONGEST];
-    let size = hex::decode(part_of(rest, n + 2, rest.len()), &mut bytes);
-    let code = tables::number_of(part_of(rest, 0, n));
+    let size = fields::bytes_at(rest, 1, &mut bytes);
+    let code = (fields::number_at(rest, 0) % CODES) as u16;
     hex::say_hex(message::element(part_of(&bytes, 0, size), code));
 }

@@ -1,6 +1,6 @@
 // The tables of actions, by their place in the list of words. The rest of a line is an action and, after a space, what the table
 // is asked of.
-ghost use Prim.Native.Nat.{_<_};
+use crate::fields::number_of;
 use crate::hex;
 use octets::byte_at;
 use octets::part_of;
@@ -9,24 +9,6 @@ pub const COUNT: usize = 5;
 
 // The size of an action's code.
 const ACTION: usize = 4;
-
-// A decimal number of one or two digits.
-pub fn number_of(v: &[u8]) -> u16 {
-    let high = digit_of(byte_at(v, 0));
-    if v.len() < 2 {
-        return high;
-    }
-    high * 10 + digit_of(byte_at(v, 1))
-}
-
-fn digit_of(b: u8) -> u16
-    ensures { λ r. ⌜ r < 256 ⌝ }
-{
-    if b < b'0' {
-        return 0;
-    }
-    (b - b'0') as u16
-}
 
 // The place of a word among those of the tables, or their number.
 pub fn place(word: &[u8]) -> usize {

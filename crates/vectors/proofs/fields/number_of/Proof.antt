@@ -1,9 +1,9 @@
--- `vectors::lines::number_of` is within its bounds. Assumes nothing.
+-- `vectors::fields::number_of` is within its bounds. Assumes nothing.
 use Prim.Native.Nat.{_-_, _≤_}
 use lib.ListN.{length}
 use borrow.Author.Needs.{needs}
-use Rattle.vectors.proofs.lines.number_of.Statement.{statement}
-use Rattle.vectors.proofs.lines.number_of.Tie as tie
+use Rattle.vectors.proofs.fields.number_of.Statement.{statement}
+use Rattle.vectors.proofs.fields.number_of.Tie as tie
 
 abbrev Inv-loop : tie.InvT-loop
 Inv-loop v n₀ i₀ n i = i ≤ length v
