@@ -1,6 +1,6 @@
 -- Laws of specs/Rows.antt: what is written of a row leaves it as long as it is. Assumes nothing.
 use Prim.Native.Nat.{ℕ}
-use mathlib.Core.Bool.{true}
+use mathlib.Core.Bool.{Bool, true, false}
 use mathlib.Core.Path.{_≡_, refl, _∙_}
 use mathlib.Core.List.{List, [], _∷_}
 use native.Mathlib.Omega.{arith}
@@ -13,6 +13,7 @@ use Rattle.octets.proofs.FieldRun.{inPlace, length-bytes, all-written, field-pl
 use Rattle.terms.specs.Terms.{termsSize}
 use Rattle.actions.specs.declared.Action.{Action}
 use Rattle.actions.specs.declared.Action.the-variants.{Newt, Modi, Corr, Term, Eror, Revi, Prto}
+use Rattle.actions.specs.Actions.{isFull, writesLine, isNew}
 use Rattle.ledger.specs.Layout.{u64, statusAt, identifierAt, termsAt, rowSize}
 use Rattle.ledger.specs.Rows.{rowFields, newRow, withStatus, withIdentifier, withTerms, rowAfter}
 
@@ -47,21 +48,24 @@ pub length-with-terms : (terms r : List ℕ) → length terms ≡ termsSize → 
 unfolding withTerms
 length-with-terms terms r long size = length-splice r terms termsAt (omega arith) ∙ size
 
--- whatever the action
+-- ---- the row after an action
+
+-- what holds of each of the four ways to write a row holds of the row after any action; the tests say which actions are full, write a line, are new
+pub by-way : (P : Bool → Bool → Bool → List ℕ → Type 0) (status : ℕ) (u : List ℕ) (identifier : ℕ) (terms r : List ℕ)
+    → P true true true (newRow status u identifier terms)
+    → P true true false (withTerms terms (withIdentifier identifier (withStatus status r)))
+    → P false true false (withIdentifier identifier (withStatus status r))
+    → P false false false (withStatus status r)
+    → (a : Action) → P (isFull a) (writesLine a) (isNew a) (rowAfter a status u identifier terms r)
+by-way P status u identifier terms r new changed marked set Newt = new
+by-way P status u identifier terms r new changed marked set Modi = changed
+by-way P status u identifier terms r new changed marked set Corr = changed
+by-way P status u identifier terms r new changed marked set Term = marked
+by-way P status u identifier terms r new changed marked set Eror = marked
+by-way P status u identifier terms r new changed marked set Revi = changed
+by-way P status u identifier terms r new changed marked set Prto = set
+
 pub length-row-after : (a : Action) (status : ℕ) (u : List ℕ) (identifier : ℕ) (terms r : List ℕ) → length terms ≡ termsSize → length r ≡ rowSize → length (rowAfter a status u identifier terms r) ≡ rowSize
-length-row-after a status u identifier terms r long size = by a
-  where
-    marked : length (withIdentifier identifier (withStatus status r)) ≡ rowSize
-    marked = length-with-identifier identifier _ (length-with-status status r size)
-
-    changed : length (withTerms terms (withIdentifier identifier (withStatus status r))) ≡ rowSize
-    changed = length-with-terms terms _ long marked
-
-    by : (a : Action) → length (rowAfter a status u identifier terms r) ≡ rowSize
-    by Newt = length-new-row status u identifier terms
-    by Modi = changed
-    by Corr = changed
-    by Term = marked
-    by Eror = marked
-    by Revi = changed
-    by Prto = length-with-status status r size
+length-row-after a status u identifier terms r long size =
+    let marked : length (withIdentifier identifier (withStatus status r)) ≡ rowSize = length-with-identifier identifier _ (length-with-status status r size) in
+    by-way (λ f l n x. length x ≡ rowSize) status u identifier terms r (length-new-row status u identifier terms) (length-with-terms terms _ long marked) marked (length-with-status status r size) a

@@ -22,11 +22,10 @@ use Rattle.octets.proofs.NumberLaws.{length-toLe, fromLe-toLe}
 use Rattle.octets.proofs.FieldLaws.{field-fits, field-exact}
 use Rattle.terms.specs.Terms.{termsSize}
 use Rattle.actions.specs.declared.Action.{Action}
-use Rattle.actions.specs.declared.Action.the-variants.{Newt, Modi, Corr, Term, Eror, Revi, Prto}
 use Rattle.actions.specs.Actions.{isFull, isNew, writesLine}
 use Rattle.ledger.specs.Layout.{u64, statusAt, lengthAt, utiAt, utiSize, identifierAt, termsAt, tailAt, tailSize, rowSize}
 use Rattle.ledger.specs.Rows.{statusOf, identifierOf, storedTerms, holdsUti, rowFields, newRow, withStatus, withIdentifier, withTerms, rowAfter}
-use Rattle.ledger.proofs.RowAfterLaws.{row-placed, length-with-status, length-with-identifier}
+use Rattle.ledger.proofs.RowAfterLaws.{row-placed, length-with-status, length-with-identifier, by-way}
 
 -- a field that is long enough opens with its text
 opens : (n : ℕ) (u : List ℕ) → length u ≤ n → take (length u) (field n u) ≡ u
@@ -131,121 +130,63 @@ module _ (status : ℕ) (u : List ℕ) (identifier : ℕ) (terms : List ℕ) whe
 -- ---- the row after an action
 
 module _ (a : Action) (status : ℕ) (u : List ℕ) (identifier : ℕ) (terms r : List ℕ) (long : length terms ≡ termsSize) (size : length r ≡ rowSize) where
-  size₁ : length (withStatus status r) ≡ rowSize
-  size₁ = length-with-status status r size
+  abbrev set : List ℕ
+  set = withStatus status r
 
-  size₂ : length (withIdentifier identifier (withStatus status r)) ≡ rowSize
-  size₂ = length-with-identifier identifier (withStatus status r) size₁
+  abbrev marked : List ℕ
+  marked = withIdentifier identifier (withStatus status r)
+
+  abbrev changed : List ℕ
+  changed = withTerms terms (withIdentifier identifier (withStatus status r))
+
+  set-size : length set ≡ rowSize
+  set-size = length-with-status status r size
+
+  marked-size : length marked ≡ rowSize
+  marked-size = length-with-identifier identifier set set-size
 
   -- the status is written by every action
   pub after-status : statusOf (rowAfter a status u identifier terms r) ≡ status
   unfolding statusOf
-  after-status = by a
-    where
-      one : getD (withStatus status r) statusAt 0 ≡ status
-      one = status-status r size status
-
-      two : getD (withIdentifier identifier (withStatus status r)) statusAt 0 ≡ status
-      two = same-byte (withIdentifier identifier (withStatus status r)) (withStatus status r) statusAt (identifier-front (withStatus status r) size₁ identifier statusAt 1 (omega arith)) ∙ one
-
-      three : getD (withTerms terms (withIdentifier identifier (withStatus status r))) statusAt 0 ≡ status
-      three = same-byte (withTerms terms (withIdentifier identifier (withStatus status r))) (withIdentifier identifier (withStatus status r)) statusAt (terms-front (withIdentifier identifier (withStatus status r)) size₂ terms long statusAt 1 (omega arith)) ∙ two
-
-      by : (a : Action) → getD (rowAfter a status u identifier terms r) statusAt 0 ≡ status
-      by Newt = new-status status u identifier terms
-      by Modi = three
-      by Corr = three
-      by Term = two
-      by Eror = two
-      by Revi = three
-      by Prto = one
+  after-status =
+      let one : getD set statusAt 0 ≡ status = status-status r size status in
+      let two : getD marked statusAt 0 ≡ status = same-byte marked set statusAt (identifier-front set set-size identifier statusAt 1 (omega arith)) ∙ one in
+      let three : getD changed statusAt 0 ≡ status = same-byte changed marked statusAt (terms-front marked marked-size terms long statusAt 1 (omega arith)) ∙ two in
+      by-way (λ f w n x. getD x statusAt 0 ≡ status) status u identifier terms r (new-status status u identifier terms) three two one a
 
   -- the identifier is written by every action that writes a line
   pub after-identifier : identifier < 256 ^ u64 → identifierOf (rowAfter a status u identifier terms r) ≡ choose (writesLine a) identifier (identifierOf r)
   unfolding identifierOf
-  after-identifier b = by a
-    where
-      two : fromLe (part (withIdentifier identifier (withStatus status r)) identifierAt u64) ≡ identifier
-      two = identifier-identifier (withStatus status r) size₁ identifier b
-
-      three : fromLe (part (withTerms terms (withIdentifier identifier (withStatus status r))) identifierAt u64) ≡ identifier
-      three = ap fromLe (terms-front (withIdentifier identifier (withStatus status r)) size₂ terms long identifierAt u64 (omega arith)) ∙ two
-
-      by : (a : Action) → fromLe (part (rowAfter a status u identifier terms r) identifierAt u64) ≡ choose (writesLine a) identifier (fromLe (part r identifierAt u64))
-      by Newt = new-identifier status u identifier terms b
-      by Modi = three
-      by Corr = three
-      by Term = two
-      by Eror = two
-      by Revi = three
-      by Prto = ap fromLe (status-rest r size status identifierAt u64 (omega arith))
+  after-identifier h =
+      let one : fromLe (part set identifierAt u64) ≡ fromLe (part r identifierAt u64) = ap fromLe (status-rest r size status identifierAt u64 (omega arith)) in
+      let two : fromLe (part marked identifierAt u64) ≡ identifier = identifier-identifier set set-size identifier h in
+      let three : fromLe (part changed identifierAt u64) ≡ identifier = ap fromLe (terms-front marked marked-size terms long identifierAt u64 (omega arith)) ∙ two in
+      by-way (λ f w n x. fromLe (part x identifierAt u64) ≡ choose w identifier (fromLe (part r identifierAt u64))) status u identifier terms r (new-identifier status u identifier terms h) three two one a
 
   -- the terms are written by every full action
   pub after-terms : storedTerms (rowAfter a status u identifier terms r) ≡ choose (isFull a) terms (storedTerms r)
   unfolding storedTerms
-  after-terms = by a
-    where
-      one : part (withStatus status r) termsAt termsSize ≡ part r termsAt termsSize
-      one = status-rest r size status termsAt termsSize (omega arith)
-
-      two : part (withIdentifier identifier (withStatus status r)) termsAt termsSize ≡ part r termsAt termsSize
-      two = identifier-rest (withStatus status r) size₁ identifier termsAt termsSize (omega arith) ∙ one
-
-      three : part (withTerms terms (withIdentifier identifier (withStatus status r))) termsAt termsSize ≡ terms
-      three = terms-terms (withIdentifier identifier (withStatus status r)) size₂ terms long
-
-      by : (a : Action) → part (rowAfter a status u identifier terms r) termsAt termsSize ≡ choose (isFull a) terms (part r termsAt termsSize)
-      by Newt = new-terms status u identifier terms long
-      by Modi = three
-      by Corr = three
-      by Term = two
-      by Eror = two
-      by Revi = three
-      by Prto = one
+  after-terms =
+      let one : part set termsAt termsSize ≡ part r termsAt termsSize = status-rest r size status termsAt termsSize (omega arith) in
+      let two : part marked termsAt termsSize ≡ part r termsAt termsSize = identifier-rest set set-size identifier termsAt termsSize (omega arith) ∙ one in
+      let three : part changed termsAt termsSize ≡ terms = terms-terms marked marked-size terms long in
+      by-way (λ f w n x. part x termsAt termsSize ≡ choose f terms (part r termsAt termsSize)) status u identifier terms r (new-terms status u identifier terms long) three two one a
 
   -- length, UTI and padding are written by NEWT alone
   pub after-kept : isNew a ≡ false → (from n : ℕ) → lengthAt ≤ from → from + n ≤ identifierAt → part (rowAfter a status u identifier terms r) from n ≡ part r from n
-  after-kept e from n p q = by a e
-    where
-      one : part (withStatus status r) from n ≡ part r from n
-      one = status-rest r size status from n p
-
-      two : part (withIdentifier identifier (withStatus status r)) from n ≡ part r from n
-      two = identifier-front (withStatus status r) size₁ identifier from n q ∙ one
-
-      three : part (withTerms terms (withIdentifier identifier (withStatus status r))) from n ≡ part r from n
-      three = terms-front (withIdentifier identifier (withStatus status r)) size₂ terms long from n (omega arith) ∙ two
-
-      by : (a : Action) → isNew a ≡ false → part (rowAfter a status u identifier terms r) from n ≡ part r from n
-      by Newt f = absurd (false≢true (sym f))
-      by Modi f = three
-      by Corr f = three
-      by Term f = two
-      by Eror f = two
-      by Revi f = three
-      by Prto f = one
+  after-kept e from n p q =
+      let one : part set from n ≡ part r from n = status-rest r size status from n p in
+      let two : part marked from n ≡ part r from n = identifier-front set set-size identifier from n q ∙ one in
+      let three : part changed from n ≡ part r from n = terms-front marked marked-size terms long from n (omega arith) ∙ two in
+      by-way (λ f w new x. new ≡ false → part x from n ≡ part r from n) status u identifier terms r (λ z. absurd (false≢true (sym z))) (λ z. three) (λ z. two) (λ z. one) a e
 
   -- and so are the last bytes
   pub after-tail : isNew a ≡ false → part (rowAfter a status u identifier terms r) tailAt tailSize ≡ part r tailAt tailSize
-  after-tail e = by a e
-    where
-      one : part (withStatus status r) tailAt tailSize ≡ part r tailAt tailSize
-      one = status-rest r size status tailAt tailSize (omega arith)
-
-      two : part (withIdentifier identifier (withStatus status r)) tailAt tailSize ≡ part r tailAt tailSize
-      two = identifier-rest (withStatus status r) size₁ identifier tailAt tailSize (omega arith) ∙ one
-
-      three : part (withTerms terms (withIdentifier identifier (withStatus status r))) tailAt tailSize ≡ part r tailAt tailSize
-      three = terms-rest (withIdentifier identifier (withStatus status r)) size₂ terms long tailAt tailSize (omega arith) ∙ two
-
-      by : (a : Action) → isNew a ≡ false → part (rowAfter a status u identifier terms r) tailAt tailSize ≡ part r tailAt tailSize
-      by Newt f = absurd (false≢true (sym f))
-      by Modi f = three
-      by Corr f = three
-      by Term f = two
-      by Eror f = two
-      by Revi f = three
-      by Prto f = one
+  after-tail e =
+      let one : part set tailAt tailSize ≡ part r tailAt tailSize = status-rest r size status tailAt tailSize (omega arith) in
+      let two : part marked tailAt tailSize ≡ part r tailAt tailSize = identifier-rest set set-size identifier tailAt tailSize (omega arith) ∙ one in
+      let three : part changed tailAt tailSize ≡ part r tailAt tailSize = terms-rest marked marked-size terms long tailAt tailSize (omega arith) ∙ two in
+      by-way (λ f w new x. new ≡ false → part x tailAt tailSize ≡ part r tailAt tailSize) status u identifier terms r (λ z. absurd (false≢true (sym z))) (λ z. three) (λ z. two) (λ z. one) a e
 
   pub after-holds : isNew a ≡ false → (v : List ℕ) → length v ≤ utiSize → holdsUti v (rowAfter a status u identifier terms r) ≡ holdsUti v r
   after-holds e v h = same-uti r (rowAfter a status u identifier terms r) (after-kept e) v h

@@ -14,7 +14,7 @@ use Rattle.octets.specs.Search.{firstFrom}
 use Rattle.octets.proofs.ChoiceLaws.{both-first, both-second}
 use Rattle.octets.proofs.SearchLaws.{first-passes, first-le, first-from}
 use Rattle.actions.specs.Elements.{lastCode}
-use Rattle.rules.specs.Findings.{Finding, passed, broken, lowest, orElse, firstBroken}
+use Rattle.rules.specs.Findings.{Finding, passed, broken, brokenIf, lowest, orElse, firstBroken}
 
 -- no rule
 abbrev pub noRule : ℕ × Finding
@@ -37,6 +37,13 @@ module _ (rs : List (ℕ × Finding)) (k : ℕ) (h : k < length rs) where
   pub stop-at : (code : ℕ) → findingAt rs k ≡ broken code → firstBroken (drop k rs) ≡ (numberAt rs k, code)
   unfolding firstBroken
   stop-at code e = rw (drop-cons rs k noRule h, e)
+
+-- a test whose rule is passed
+pub not-broken : (b : Bool) → brokenIf b ≡ passed → b ≡ false
+not-broken true e =
+    let z : _≡_ {A = ℕ} 0 1 = cc in
+    absurd (omega arith)
+not-broken false e = refl
 
 -- ---- the first rule broken
 

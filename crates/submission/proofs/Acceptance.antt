@@ -6,25 +6,25 @@ use mathlib.Core.List.{List}
 use native.Mathlib.Omega.{arith}
 use lib.ListN.{length, length-append, List·getD-append}
 use lib.Dec.{eqb, leb, ltb, lit<, lit≤}
-use borrow.Author.Tests.{eqb-true, eqb-false, ne-eqb, leb-true, ltb-true, ltb-false}
-use Rattle.octets.specs.Choice.{choose, both}
-use Rattle.octets.proofs.ChoiceLaws.{both-first, both-second}
+use borrow.Author.Tests.{eqb-false, ne-eqb, leb-true, ltb-true, ltb-false}
+use Rattle.octets.specs.Choice.{both}
+use Rattle.octets.proofs.ChoiceLaws.{both-first, both-second, both-false, not-not}
 use Rattle.values.specs.Limits.{utiLeast, utiMost}
 use Rattle.values.specs.Run.{within, runOf}
 use Rattle.actions.specs.declared.Action.{Action}
-use Rattle.actions.specs.declared.Action.the-variants.{Newt, Modi, Corr, Term, Eror, Revi, Prto}
 use Rattle.actions.specs.declared.Checked.{Checked}
 use Rattle.actions.specs.declared.Checked.the-variants.{Fault, Value}
 use Rattle.actions.specs.Actions.{isNew, writesLine}
 use Rattle.actions.specs.Statuses.{live, ported, unknown, noStep, nextStatus}
+use Rattle.actions.proofs.KindLaws.{old-unknown, new-unknown}
 use Rattle.elements.specs.Codes.{uti}
 use Rattle.elements.specs.Forms.{formOf, hasForm}
 use Rattle.elements.specs.Conditions.{isMissing}
 use Rattle.rules.specs.declared.checks.Check.the-variants.{Needed, Formed}
-use Rattle.rules.specs.Findings.{passed, broken, brokenIf, firstBroken}
+use Rattle.rules.specs.Findings.{passed, broken, firstBroken}
 use Rattle.rules.specs.Rules.{rulesFor, rulesOf, atFault}
 use Rattle.rules.proofs.JudgeLaws.{neededAt, formedAt}
-use Rattle.rules.proofs.FindingLaws.{noRule, findingAt, unused, distinct, all-passed, lowest-passed}
+use Rattle.rules.proofs.FindingLaws.{noRule, not-broken, findingAt, unused, distinct, all-passed, lowest-passed}
 use Rattle.ledger.specs.Layout.{utiSize, lineSize, lastIdentifier}
 use Rattle.ledger.specs.Header.{rowsInUse, nextIdentifier, capacityIn, headerRight}
 use Rattle.ledger.specs.Rows.{statusOf, placeOf, isKnown, swapRow, swapStatus}
@@ -60,23 +60,6 @@ roomPlace = 14
 abbrev pub spentPlace : ℕ
 spentPlace = 15
 
--- ---- tests
-
--- a test whose rule is passed
-pub not-broken : (b : Bool) → brokenIf b ≡ passed → b ≡ false
-not-broken true e =
-    let z : _≡_ {A = ℕ} 0 1 = cc in
-    absurd (omega arith)
-not-broken false e = refl
-
-pub not-not : (b : Bool) → not b ≡ false → b ≡ true
-not-not true e = refl
-not-not false e = absurd (false≢true (sym e))
-
-pub both-false : (a b : Bool) → both a b ≡ false → a ≡ true → b ≡ false
-both-false true b e f = e
-both-false false b e f = absurd (false≢true f)
-
 -- ---- the rules
 
 module _ (limits : Limits) (l t m : List ℕ) where
@@ -107,29 +90,6 @@ module _ (limits : Limits) (l t m : List ℕ) where
           record { action = a; reads = e; passes = all-passed (submissionRules limits (Value a) l t m) (numbers-differ (Value a)) w }
 
 -- ---- what the rules that an accepted message passes say
-
--- NEWT alone is admitted for an unknown swap, and for no other
-old-unknown : (a : Action) → isNew a ≡ false → nextStatus a unknown ≡ noStep
-old-unknown Newt e = absurd (false≢true (sym e))
-old-unknown Modi e = refl
-old-unknown Corr e = refl
-old-unknown Term e = refl
-old-unknown Eror e = refl
-old-unknown Revi e = refl
-old-unknown Prto e = refl
-
-new-step : (b : Bool) → eqb (choose b live noStep) noStep ≡ false → b ≡ true
-new-step true e = refl
-new-step false e = absurd (false≢true (sym e))
-
-new-unknown : (a : Action) (s : ℕ) → isNew a ≡ true → eqb (nextStatus a s) noStep ≡ false → s ≡ unknown
-new-unknown Newt s e f = eqb-true s unknown (new-step (eqb s unknown) f)
-new-unknown Modi s e f = absurd (false≢true e)
-new-unknown Corr s e f = absurd (false≢true e)
-new-unknown Term s e f = absurd (false≢true e)
-new-unknown Eror s e f = absurd (false≢true e)
-new-unknown Revi s e f = absurd (false≢true e)
-new-unknown Prto s e f = absurd (false≢true e)
 
 -- a value of the form of a UTI
 uti-long : (v : List ℕ) → hasForm uti v ≡ true → length v ≤ utiSize

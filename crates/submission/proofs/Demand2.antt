@@ -11,7 +11,7 @@ use Rattle.octets.specs.Choice.{choose, both}
 use Rattle.octets.specs.Part.{splice}
 use Rattle.octets.specs.Fields.{Placed}
 use Rattle.octets.specs.Same.{sameBytes}
-use Rattle.octets.proofs.ChoiceLaws.{both-first, both-second}
+use Rattle.octets.proofs.ChoiceLaws.{both-first, both-second, both-false, not-not}
 use Rattle.octets.proofs.SameLaws.{same-true, same-refl}
 use Rattle.octets.proofs.PartLaws.{length-splice, byte-apart}
 use Rattle.octets.proofs.FieldRun.{front-placed, front-later}
@@ -24,6 +24,7 @@ use Rattle.actions.specs.declared.Checked.{Checked}
 use Rattle.actions.specs.declared.Checked.the-variants.{Value}
 use Rattle.actions.specs.Actions.{isFull, isNew, writesLine}
 use Rattle.actions.specs.Statuses.{live, ported, nextStatus, repeatsTime}
+use Rattle.actions.proofs.KindLaws.{is-newt}
 use Rattle.elements.specs.Codes.{uti, executionTime}
 use Rattle.elements.specs.Forms.{hasForm}
 use Rattle.rules.specs.Verdicts.{formBroken}
@@ -46,8 +47,8 @@ use Rattle.submission.specs.Opening.{Limits, openingRules, openingVerdic
 use Rattle.submission.specs.Status.{statusRules, asked}
 use Rattle.submission.specs.Submission.{submitted, swapOf, actionIn, rowRight, hasWrongRow, isNotAdmitted, hasOtherTime, findsFull, findsSpent, swapRules, submissionRules, rulesOn, verdictOn, maskedTerms, termsFor, placeFor, rowFor, ledgerFor, lineFor}
 use Rattle.submission.specs.Demand2.{Verdict-exactly, Checking-order, RightRow, Sound, Accepted-exactly, Outside, LedgerWritten, TapeWritten, Acceptance-writes, OpeningExactly, Opening-exactly, Opening-writes, QuestionExactly, Question-exactly}
-use Rattle.submission.proofs.Acceptance.{not-not, both-false, numbers-differ, Accepting, accepting, Fits, row-test, status-test, time-test, message-passes, room-test, spent-test}
-use Rattle.submission.proofs.Lookup.{is-newt, row-whole, length-shown, length-after, ledger-length, new-place, rows-raised, next-raised, row-written}
+use Rattle.submission.proofs.Acceptance.{numbers-differ, Accepting, accepting, Fits, row-test, status-test, time-test, message-passes, room-test, spent-test}
+use Rattle.submission.proofs.Lookup.{row-whole, length-shown, length-after, ledger-length, new-place, rows-raised, next-raised, row-written}
 use Rattle.submission.proofs.Turn.{Accepts, accepts, verdict-is}
 use Rattle.submission.proofs.Opened.{long-enough, start-is}
 use Rattle.submission.proofs.Demand1.{element-is}

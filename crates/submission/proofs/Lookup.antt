@@ -1,6 +1,6 @@
 -- The ledger after an accepted message: its header's numbers, the row of the message's swap, and that of any other. Assumes nothing.
 use Prim.Native.Nat.{ℕ, suc, _+_, _^_, _<_, _≤_}
-use mathlib.Core.Bool.{Bool, true, false, false≢true}
+use mathlib.Core.Bool.{Bool, true, false}
 use mathlib.Core.Path.{_≡_, refl, sym, ap, _∙_, subst}
 use mathlib.Core.Logic.{_↔_}
 use mathlib.Core.List.{List}
@@ -21,9 +21,10 @@ use Rattle.octets.proofs.PartLaws.{length-part}
 use Rattle.terms.specs.Terms.{termsSize}
 use Rattle.terms.proofs.TermLaws.{length-terms}
 use Rattle.actions.specs.declared.Action.{Action}
-use Rattle.actions.specs.declared.Action.the-variants.{Newt, Modi, Corr, Term, Eror, Revi, Prto}
+use Rattle.actions.specs.declared.Action.the-variants.{Newt}
 use Rattle.actions.specs.Actions.{isFull, isNew, writesLine}
 use Rattle.actions.specs.Statuses.{nextStatus}
+use Rattle.actions.proofs.KindLaws.{is-newt, old-unless-full}
 use Rattle.message.specs.Values.{value}
 use Rattle.elements.specs.Codes.{assetClass}
 use Rattle.ledger.specs.declared.header.Caps.{Caps}
@@ -38,27 +39,6 @@ use Rattle.ledger.proofs.ReadBack.{row-length, row-rows, row-next, row-caps, ro
 use Rattle.submission.specs.Opening.{Limits}
 use Rattle.submission.specs.Submission.{swapOf, maskedTerms, termsFor, placeFor, rowFor, ledgerFor}
 use Rattle.submission.proofs.Acceptance.{Fits}
-
--- ---- actions
-
-pub is-newt : (a : Action) → isNew a ≡ true → a ≡ Newt
-is-newt Newt e = refl
-is-newt Modi e = absurd (false≢true e)
-is-newt Corr e = absurd (false≢true e)
-is-newt Term e = absurd (false≢true e)
-is-newt Eror e = absurd (false≢true e)
-is-newt Revi e = absurd (false≢true e)
-is-newt Prto e = absurd (false≢true e)
-
--- an action that is not full is for a swap that has a row
-pub old-unless-full : (a : Action) → isFull a ≡ false → isNew a ≡ false
-old-unless-full Newt e = absurd (false≢true (sym e))
-old-unless-full Modi e = refl
-old-unless-full Corr e = refl
-old-unless-full Term e = refl
-old-unless-full Eror e = refl
-old-unless-full Revi e = refl
-old-unless-full Prto e = refl
 
 -- ---- a row holds one UTI
 

@@ -8,8 +8,9 @@ use lib.ListN.{length}
 use lib.Dec.{lit<}
 use borrow.Author.Tests.{ltb-true, ltb-false, eq-eqb}
 use Rattle.octets.specs.Part.{splice}
+use Rattle.octets.proofs.ChoiceLaws.{not-not}
 use Rattle.rules.specs.Findings.{passed}
-use Rattle.rules.proofs.FindingLaws.{unused, distinct, findingAt, all-passed}
+use Rattle.rules.proofs.FindingLaws.{findingAt, not-broken, unused, distinct, all-passed}
 use Rattle.ledger.specs.declared.header.Caps.{Caps}
 use Rattle.ledger.specs.Layout.{u32, rowsAt, headerSize, shortestLedger}
 use Rattle.ledger.specs.Header.{rowsInUse, nextIdentifier, capsIn, areCaps, capacityFor, headerRight, newHeader}
@@ -17,7 +18,6 @@ use Rattle.ledger.specs.Rows.{placeOf, isKnown}
 use Rattle.ledger.proofs.NewHeader as header
 use Rattle.submission.specs.Opening.{Limits, openingRules, openingVerdict, opened}
 use Rattle.submission.specs.Demand3.{start}
-use Rattle.submission.proofs.Acceptance.{not-broken, not-not}
 use Rattle.submission.proofs.Told.{Holds}
 
 opening-differ : (caps : Caps) (l : List ℕ) → distinct (openingRules caps l) ≡ true

@@ -8,9 +8,9 @@ use native.Mathlib.Omega.{arith}
 use lib.ListN.{length}
 use lib.Dec.{eqb}
 use borrow.Author.Tests.{eqb-true}
-use Rattle.octets.specs.Choice.{choose, both}
+use Rattle.octets.specs.Choice.{both}
 use Rattle.octets.specs.Same.{sameBytes}
-use Rattle.octets.proofs.ChoiceLaws.{both-first, both-second}
+use Rattle.octets.proofs.ChoiceLaws.{both-first, both-second, same-test, choose-first, choose-same}
 use Rattle.octets.proofs.SameLaws.{same-true, same-refl}
 use Rattle.actions.specs.declared.Checked.{Checked}
 use Rattle.actions.specs.declared.Checked.the-variants.{Fault, Value}
@@ -22,25 +22,6 @@ use Rattle.submission.specs.Submission.{swapOf, actionIn, maskedTerms}
 use Rattle.submission.specs.History.{Call, messageOf, answerTo, ledgerAfter, hasAction, ofKind, publishes, Judgement, judgements}
 use Rattle.submission.specs.Demand3.{messageAt, verdictAt, Accepted, termsAt, SameShown, Alike}
 use Rattle.submission.specs.Published.{published, lastLine, lastMasked, toldTerms, lineBy, toldLine, told}
-
--- ---- choices
-
--- two choices by equal tests
-pub choose-same {ℓ} : {A : Type ℓ} (b d : Bool) (x x′ y y′ : A) → b ≡ d → (b ≡ true → x ≡ x′) → y ≡ y′ → choose b x y ≡ choose d x′ y′
-choose-same true true x x′ y y′ e f g = f refl
-choose-same true false x x′ y y′ e f g = cc
-choose-same false true x x′ y y′ e f g = cc
-choose-same false false x x′ y y′ e f g = g
-
-choose-first {ℓ} : {A : Type ℓ} (b : Bool) (x y : A) → b ≡ true → choose b x y ≡ x
-choose-first true x y e = refl
-choose-first false x y e = cc
-
--- two tests are equal if each passes where the other does
-pub same-test : (a b : Bool) → (a ≡ true → b ≡ true) → (b ≡ true → a ≡ true) → a ≡ b
-same-test true b f g = sym (f refl)
-same-test false true f g = g refl
-same-test false false f g = refl
 
 -- ---- two messages that show the same
 

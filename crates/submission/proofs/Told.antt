@@ -10,9 +10,9 @@ use Rattle.octets.specs.Choice.{choose, both}
 use Rattle.octets.specs.Same.{sameBytes}
 use Rattle.octets.proofs.SameLaws.{same-true, same-refl}
 use Rattle.actions.specs.declared.Action.{Action}
-use Rattle.actions.specs.declared.Action.the-variants.{Newt, Modi, Corr, Term, Eror, Revi, Prto}
 use Rattle.actions.specs.declared.Checked.the-variants.{Value}
 use Rattle.actions.specs.Actions.{isFull, isNew, writesLine}
+use Rattle.actions.proofs.KindLaws.{old-unless-full, line-if-full}
 use Rattle.ledger.specs.declared.header.Caps.{Caps}
 use Rattle.ledger.specs.Layout.{u32, utiSize}
 use Rattle.ledger.specs.Header.{nextIdentifier, capsIn}
@@ -24,7 +24,7 @@ use Rattle.submission.specs.Submission.{swapOf, actionIn, maskedTerms, t
 use Rattle.submission.specs.History.{Call, submit, messageOf, ledgerAfter, publishes, lineOf, tape}
 use Rattle.submission.specs.Published.{published, lastLine, lastMasked, toldTerms, toldLine, told}
 use Rattle.submission.proofs.Acceptance.{Fits}
-use Rattle.submission.proofs.Lookup.{old-unless-full, row-whole, length-shown, old-place, next-raised, caps-kept, own-row, other-kept}
+use Rattle.submission.proofs.Lookup.{row-whole, length-shown, old-place, next-raised, caps-kept, own-row, other-kept}
 use Rattle.submission.proofs.Turn.{Accepts, accepts, refused-ledger, refused-publishes, refused-line, accepted-ledger, accepted-publishes, accepted-line}
 
 -- a ledger holds what the published messages say, the latest first: the next identifier is one more than their number, and the row of each known swap has
@@ -34,16 +34,6 @@ pub record Holds (caps : Caps) (l : List ℕ) (earlier : List (List ℕ)) : Type
   pub next-is : nextIdentifier l ≡ suc (length earlier)
   pub identifiers : (u : List ℕ) → length u ≤ utiSize → isKnown l u ≡ true → identifierOf (swapRow l u) ≡ lastLine u earlier
   pub terms : (u : List ℕ) → length u ≤ utiSize → isKnown l u ≡ true → storedTerms (swapRow l u) ≡ lastMasked caps u earlier
-
--- a full action writes a line
-line-if-full : (a : Action) → writesLine a ≡ false → isFull a ≡ false
-line-if-full Newt e = absurd (false≢true (sym e))
-line-if-full Modi e = absurd (false≢true (sym e))
-line-if-full Corr e = absurd (false≢true (sym e))
-line-if-full Term e = absurd (false≢true (sym e))
-line-if-full Eror e = absurd (false≢true (sym e))
-line-if-full Revi e = absurd (false≢true (sym e))
-line-if-full Prto e = refl
 
 -- NEWT shows no previous identifier
 new-line : (a : Action) (i p q : ℕ) (m terms : List ℕ) → isNew a ≡ true → line a i p m terms ≡ line a i q m terms

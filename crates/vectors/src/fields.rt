@@ -4,9 +4,7 @@ ghost use lib.ListN.{length};
 use crate::hex;
 use octets::part_of;
 
-// A number that may have one decimal digit more and still fit 64 bits.
-const ROOM: u64 = 1_844_674_407_370_955_160;
-
+// The largest number of 64 bits.
 const LARGEST: u64 = 18_446_744_073_709_551_615;
 
 // Where a field starts.
@@ -43,10 +41,11 @@ pub fn number_of(v: &[u8]) -> u64 {
     let mut n: u64 = 0;
     let mut i: usize = 0;
     while i < v.len() {
-        if ROOM < n {
+        let digit = digit_of(v[i]);
+        if (LARGEST - digit) / 10 < n {
             return LARGEST;
         }
-        n = n * 10 + digit_of(v[i]);
+        n = n * 10 + digit;
         i += 1;
     }
     n
