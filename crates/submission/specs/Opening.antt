@@ -12,10 +12,14 @@ use Rattle.ledger.specs.Layout.{shortestLedger}
 use Rattle.ledger.specs.Header.{areCaps, capacityFor, newHeader}
 use Rattle.submission.specs.Verdicts.{ledgerShort, capWrong}
 
--- the limits of document 01: the longest message, 2,048 bytes, and the largest capacity, 100,000 rows; a capacity is a u32
+-- the longest message in bytes, and the largest capacity in rows
 pub record Limits : Type 0 where
   pub longest : ℕ
   pub largest : ℕ
+
+-- those of document 01
+abbrev pub documentLimits : Limits
+documentLimits = record { longest = 2_048; largest = 100_000 }
 
 -- what opening answers and leaves
 pub record Opened : Type 0 where

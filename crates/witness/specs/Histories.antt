@@ -3,13 +3,12 @@ use Prim.Native.Nat.{ℕ}
 use mathlib.Core.List.{List, [], _∷_}
 use lib.ListN.{replicate}
 use Rattle.ledger.specs.declared.header.Caps.{Caps}
-use Rattle.submission.specs.Opening.{Limits}
+use Rattle.submission.specs.Opening.{Limits, documentLimits}
 use Rattle.submission.specs.History.{Call, submit}
 use Rattle.witness.specs.Messages.{Hidden, newPackageSwap, extendedPackageSwap, newUnclearedSwap, inError, termination}
 
--- the longest message and the largest capacity of document 01
 abbrev pub limits : Limits
-limits = record { longest = 2_048; largest = 100_000 }
+limits = documentLimits
 
 abbrev pub cap : ℕ
 cap = 250_000_000
