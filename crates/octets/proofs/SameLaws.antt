@@ -1,6 +1,6 @@
 -- Laws of specs/Same.antt. Assumes nothing.
 use mathlib.Core.Path.{_≡_, refl, sym, ap, _∙_}
-use mathlib.Core.Bool.{Bool, true, false}
+use mathlib.Core.Bool.{Bool, true, false, false≢true}
 use mathlib.Core.List.{List, [], _∷_, _++_, append-assoc}
 use Prim.Native.Nat.{ℕ, suc, _+_, _*_, _<_}
 use Prim.Native.String.{String}
@@ -47,6 +47,10 @@ not-true-false false h = refl
 
 pub same-false : (xs ys : List ℕ) → (xs ≡ ys → ⊥) → sameBytes xs ys ≡ false
 same-false xs ys h = not-true-false (sameBytes xs ys) (λ t. h (same-true xs ys t))
+
+-- bytes that the test tells apart differ
+pub same-apart : (xs ys : List ℕ) → sameBytes xs ys ≡ false → xs ≡ ys → ⊥
+same-apart xs ys e p = false≢true (sym e ∙ ap (sameBytes xs) (sym p) ∙ same-refl xs)
 
 -- ---- a chain of tests, one for each code: at test k the first k codes are passed
 

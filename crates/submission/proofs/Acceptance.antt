@@ -23,7 +23,7 @@ use Rattle.elements.specs.Conditions.{isMissing}
 use Rattle.rules.specs.declared.checks.Check.the-variants.{Needed, Formed}
 use Rattle.rules.specs.Findings.{passed, broken, firstBroken}
 use Rattle.rules.specs.Rules.{rulesFor, rulesOf, atFault}
-use Rattle.rules.proofs.JudgeLaws.{neededAt, formedAt}
+use Rattle.rules.proofs.JudgeLaws.{neededAt, formedAt, orderAt}
 use Rattle.rules.proofs.FindingLaws.{noRule, not-broken, findingAt, unused, distinct, all-passed, lowest-passed}
 use Rattle.ledger.specs.Layout.{utiSize, lineSize, lastIdentifier}
 use Rattle.ledger.specs.Header.{rowsInUse, nextIdentifier, capacityIn, headerRight}
@@ -37,28 +37,31 @@ abbrev pub headerPlace : ℕ
 headerPlace = 0
 
 abbrev pub tapePlace : ℕ
-tapePlace = 1
+tapePlace = suc headerPlace
+
+abbrev pub layoutPlace : ℕ
+layoutPlace = suc tapePlace
 
 abbrev pub actionPlace : ℕ
-actionPlace = 3
+actionPlace = suc layoutPlace
 
 abbrev pub messagePlace : ℕ → ℕ
-messagePlace k = 4 + k
+messagePlace k = suc actionPlace + k
 
 abbrev pub rowPlace : ℕ
-rowPlace = 11
+rowPlace = messagePlace (suc orderAt)
 
 abbrev pub statusPlace : ℕ
-statusPlace = 12
+statusPlace = suc rowPlace
 
 abbrev pub timePlace : ℕ
-timePlace = 13
+timePlace = suc statusPlace
 
 abbrev pub roomPlace : ℕ
-roomPlace = 14
+roomPlace = suc timePlace
 
 abbrev pub spentPlace : ℕ
-spentPlace = 15
+spentPlace = suc roomPlace
 
 -- ---- the rules
 
@@ -106,11 +109,8 @@ pub record Fits (limits : Limits) (l t m : List ℕ) (a : Action) : Type 0 where
   -- NEWT finds no row, any other action finds its swap's
   pub free : isNew a ≡ true → isKnown l (swapOf m) ≡ false
   pub known : isNew a ≡ false → isKnown l (swapOf m) ≡ true
-  pub right : isKnown l (swapOf m) ≡ true → rowRight (nextIdentifier l) (swapRow l (swapOf m)) ≡ true
-  pub step : eqb (nextStatus a (swapStatus l (swapOf m))) noStep ≡ false
-  -- the row lies within the capacity, and a line finds an identifier
+  -- the row lies within the capacity
   pub place : placeFor a l m < capacityIn l
-  pub spare : writesLine a ≡ true → nextIdentifier l < lastIdentifier
 
 module _ (limits : Limits) (l t m : List ℕ) (a : Action) (passes : (i : ℕ) → i < length (submissionRules limits (Value a) l t m) → findingAt (submissionRules limits (Value a) l t m) i ≡ passed) where
   pub header-test : headerRight (limits .largest) l ≡ true
@@ -197,10 +197,7 @@ module _ (limits : Limits) (l t m : List ℕ) (a : Action) (passes : (i : ℕ) �
         uti = uti-long (swapOf m) formed;
         free = is-free (isKnown l (swapOf m)) refl;
         known = is-known (isKnown l (swapOf m)) refl;
-        right = row-right;
-        step = status-test;
         place = place-fits (isNew a) refl (h .rows);
-        spare = λ e. omega (arith, h .next, eqb-false (nextIdentifier l) lastIdentifier (both-false (writesLine a) _ spent-test e));
       }
 
 -- ---- what a submission then is

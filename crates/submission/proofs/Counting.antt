@@ -40,7 +40,7 @@ given limits l (submit m t) = by (submitted limits l t m .verdict) refl
         record { is = ap (λ s. s .identifier) (c .answer) ∙ rw (accepted-publishes limits l t m c); some = λ p. c .fitting .header .positive }
     by (suc n) v =
         let none : publishes limits l (submit m t) ≡ false = refused-publishes limits l t m n v in
-        record { is = ap (λ s. s .identifier) (refuses limits l t m n v .answer) ∙ rw none; some = λ p. absurd (false≢true (sym none ∙ p)) }
+        record { is = ap (λ s. s .identifier) (refuses limits l t m n v) ∙ rw none; some = λ p. absurd (false≢true (sym none ∙ p)) }
 
 pub identifier-with-line : Identifier-with-line
 identifier-with-line limits l c = (λ e. by (publishes limits l c) refl e, other (publishes limits l c) refl)

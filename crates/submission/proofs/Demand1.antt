@@ -189,7 +189,7 @@ module _ (limits : Limits) (l t m : List ℕ) where
   same-element zero v =
       let zero-is : verdictOn limits l t m .0 ≡ 0 = sym (verdict-is limits l t m) ∙ v in
       ap (λ s. s .element) (accepts limits l t m v .answer) ∙ sym (answers .plain (no-action-zero _ zero-is) (no-check-zero _ zero-is))
-  same-element (suc n) v = ap (λ s. s .element) (refuses limits l t m n v .answer)
+  same-element (suc n) v = ap (λ s. s .element) (refuses limits l t m n v)
 
   pub element-is : submitted limits l t m .element ≡ verdictOn limits l t m .1
   element-is = same-element (submitted limits l t m .verdict) refl
@@ -211,9 +211,9 @@ module _ (limits : Limits) (l t m : List ℕ) where
       record {
         least = rw same (range .0);
         most = rw same (range .1);
-        identifier = ap (λ s. s .identifier) (refuses limits l t m n v .answer);
-        ledger = ap (λ s. s .ledger) (refuses limits l t m n v .answer);
-        tape = ap (λ s. s .tape) (refuses limits l t m n v .answer);
+        identifier = ap (λ s. s .identifier) (refuses limits l t m n v);
+        ledger = ap (λ s. s .ledger) (refuses limits l t m n v);
+        tape = ap (λ s. s .tape) (refuses limits l t m n v);
       }
 
 pub submission-answers : Submission-answers

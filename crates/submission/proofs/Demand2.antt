@@ -74,27 +74,28 @@ checking-order limits a l t m = refl
 
 -- ---- acceptance in words
 
+-- a row that 14 lets pass, both ways
+right-row : (next : ℕ) (r : List ℕ) → rowRight next r ≡ true → RightRow next r
+unfolding rowRight
+right-row next r e =
+    let status : within live ported (statusOf r) ≡ true = both-first (within live ported (statusOf r)) (within 1 (next - 1) (identifierOf r)) e in
+    let identifier : within 1 (next - 1) (identifierOf r) ≡ true = both-second (within live ported (statusOf r)) (within 1 (next - 1) (identifierOf r)) e in
+    let given : 1 ≤ identifierOf r = leb-true _ _ (both-first (leb 1 (identifierOf r)) (leb (identifierOf r) (next - 1)) identifier) in
+    let most : identifierOf r ≤ next - 1 = leb-true _ _ (both-second (leb 1 (identifierOf r)) (leb (identifierOf r) (next - 1)) identifier) in
+    record {
+      least = leb-true _ _ (both-first (leb live (statusOf r)) (leb (statusOf r) ported) status);
+      most = leb-true _ _ (both-second (leb live (statusOf r)) (leb (statusOf r) ported) status);
+      given = given;
+      before = omega arith;
+    }
+
+row-right : (next : ℕ) (r : List ℕ) → RightRow next r → rowRight next r ≡ true
+unfolding rowRight
+row-right next r h =
+    let most : identifierOf r ≤ next - 1 = omega (arith, h .given, h .before) in
+    rw (le-leb _ _ (h .least), le-leb _ _ (h .most), le-leb _ _ (h .given), le-leb _ _ most)
+
 module _ (limits : Limits) (l t m : List ℕ) where
-  right-row : (next : ℕ) (r : List ℕ) → rowRight next r ≡ true → RightRow next r
-  unfolding rowRight
-  right-row next r e =
-      let status : within live ported (statusOf r) ≡ true = both-first (within live ported (statusOf r)) (within 1 (next - 1) (identifierOf r)) e in
-      let identifier : within 1 (next - 1) (identifierOf r) ≡ true = both-second (within live ported (statusOf r)) (within 1 (next - 1) (identifierOf r)) e in
-      let given : 1 ≤ identifierOf r = leb-true _ _ (both-first (leb 1 (identifierOf r)) (leb (identifierOf r) (next - 1)) identifier) in
-      let most : identifierOf r ≤ next - 1 = leb-true _ _ (both-second (leb 1 (identifierOf r)) (leb (identifierOf r) (next - 1)) identifier) in
-      record {
-        least = leb-true _ _ (both-first (leb live (statusOf r)) (leb (statusOf r) ported) status);
-        most = leb-true _ _ (both-second (leb live (statusOf r)) (leb (statusOf r) ported) status);
-        given = given;
-        before = omega arith;
-      }
-
-  row-right : (next : ℕ) (r : List ℕ) → RightRow next r → rowRight next r ≡ true
-  unfolding rowRight
-  row-right next r h =
-      let most : identifierOf r ≤ next - 1 = omega (arith, h .given, h .before) in
-      rw (le-leb _ _ (h .least), le-leb _ _ (h .most), le-leb _ _ (h .given), le-leb _ _ most)
-
   sound : submitted limits l t m .verdict ≡ 0 → Sound limits l t m
   unfolding hasWrongRow hasOtherTime verdict
   sound v =

@@ -1,14 +1,14 @@
 -- The tape is what the published messages tell. Assumes nothing.
 use Prim.Native.Nat.{ℕ, zero, suc, _+_, _^_, _<_, _≤_}
-use mathlib.Core.Bool.{Bool, true, false, false≢true}
-use mathlib.Core.Path.{_≡_, refl, sym, ap, _∙_, subst}
+use mathlib.Core.Bool.{Bool, true, false}
+use mathlib.Core.Path.{_≡_, refl, ap, _∙_, subst}
 use mathlib.Core.List.{List, [], _∷_, _++_}
 use native.Mathlib.Numerals.{add-one}
 use native.Mathlib.Omega.{arith}
 use lib.ListN.{length}
 use Rattle.octets.specs.Choice.{choose, both}
 use Rattle.octets.specs.Same.{sameBytes}
-use Rattle.octets.proofs.SameLaws.{same-true, same-refl}
+use Rattle.octets.proofs.SameLaws.{same-true, same-apart}
 use Rattle.actions.specs.declared.Action.{Action}
 use Rattle.actions.specs.declared.Checked.the-variants.{Value}
 use Rattle.actions.specs.Actions.{isFull, isNew, writesLine}
@@ -39,9 +39,6 @@ pub record Holds (caps : Caps) (l : List ℕ) (earlier : List (List ℕ)) : Type
 new-line : (a : Action) (i p q : ℕ) (m terms : List ℕ) → isNew a ≡ true → line a i p m terms ≡ line a i q m terms
 unfolding line lineFields
 new-line a i p q m terms e = rw e
-
-differ : (u v : List ℕ) → sameBytes u v ≡ false → u ≡ v → ⊥
-differ u v e q = false≢true (sym e ∙ ap (sameBytes u) (sym q) ∙ same-refl u)
 
 module _ (limits : Limits) (small : limits .largest < 256 ^ u32) (caps : Caps) (l t m : List ℕ) (earlier : List (List ℕ)) (h : Holds caps l earlier)
     (a : Action) (reads : actionIn m ≡ Value a) (f : Fits limits l t m a) where
@@ -102,7 +99,7 @@ module _ (limits : Limits) (small : limits .largest < 256 ^ u32) (caps : Caps) (
       where
         by : (b : Bool) → sameBytes (swapOf m) u ≡ b → identifierOf (swapRow (ledgerFor a l m) u) ≡ choose b (suc (length earlier)) (lastLine u earlier)
         by true e = subst (λ v. identifierOf (swapRow (ledgerFor a l m) v) ≡ suc (length earlier)) (same-true (swapOf m) u e) (own-identifier ∙ rw w)
-        by false e = let k = other-kept limits l t m a f small u short (differ (swapOf m) u e) known in ap identifierOf (k .1) ∙ h .identifiers u short (k .0)
+        by false e = let k = other-kept limits l t m a f small u short (same-apart (swapOf m) u e) known in ap identifierOf (k .1) ∙ h .identifiers u short (k .0)
 
     terms-line : storedTerms (swapRow (ledgerFor a l m) u) ≡ lastMasked caps u (m ∷ earlier)
     unfolding lastMasked toldTerms
@@ -112,7 +109,7 @@ module _ (limits : Limits) (small : limits .largest < 256 ^ u32) (caps : Caps) (
         by true e =
             subst (λ v. storedTerms (swapRow (ledgerFor a l m) v) ≡ choose (isFull a) (maskedTerms caps m) (lastMasked caps v earlier)) (same-true (swapOf m) u e)
             (own-terms ∙ rw reads)
-        by false e = let k = other-kept limits l t m a f small u short (differ (swapOf m) u e) known in ap storedTerms (k .1) ∙ h .terms u short (k .0)
+        by false e = let k = other-kept limits l t m a f small u short (same-apart (swapOf m) u e) known in ap storedTerms (k .1) ∙ h .terms u short (k .0)
 
     -- a call that writes no line leaves identifier and terms
     identifier-quiet : writesLine a ≡ false → identifierOf (swapRow (ledgerFor a l m) u) ≡ lastLine u earlier
@@ -125,7 +122,7 @@ module _ (limits : Limits) (small : limits .largest < 256 ^ u32) (caps : Caps) (
         by true e =
             subst (λ v. identifierOf (swapRow (ledgerFor a l m) v) ≡ lastLine v earlier) (same-true (swapOf m) u e)
             (own-identifier ∙ rw (w, old-place limits l t m a f small old) (h .identifiers (swapOf m) (f .uti) (f .known old)))
-        by false e = let k = other-kept limits l t m a f small u short (differ (swapOf m) u e) known in ap identifierOf (k .1) ∙ h .identifiers u short (k .0)
+        by false e = let k = other-kept limits l t m a f small u short (same-apart (swapOf m) u e) known in ap identifierOf (k .1) ∙ h .identifiers u short (k .0)
 
     terms-quiet : writesLine a ≡ false → storedTerms (swapRow (ledgerFor a l m) u) ≡ lastMasked caps u earlier
     unfolding toldTerms
@@ -135,7 +132,7 @@ module _ (limits : Limits) (small : limits .largest < 256 ^ u32) (caps : Caps) (
         by true e =
             subst (λ v. storedTerms (swapRow (ledgerFor a l m) v) ≡ lastMasked caps v earlier) (same-true (swapOf m) u e)
             (own-terms ∙ rw (reads, line-if-full a w))
-        by false e = let k = other-kept limits l t m a f small u short (differ (swapOf m) u e) known in ap storedTerms (k .1) ∙ h .terms u short (k .0)
+        by false e = let k = other-kept limits l t m a f small u short (same-apart (swapOf m) u e) known in ap storedTerms (k .1) ∙ h .terms u short (k .0)
 
   after-line : writesLine a ≡ true → Holds caps (ledgerFor a l m) (m ∷ earlier)
   after-line w =

@@ -20,7 +20,6 @@ use Rattle.submission.specs.Submission.{verdictOn, actionIn, lineFor, le
 use Rattle.submission.specs.History.{publishes, lineOf, submit}
 use Rattle.submission.proofs.Acceptance.{Accepting, accepting, Fits, fits, is-accepted, is-refused}
 
--- the answer's verdict is the first rule broken's
 module _ (limits : Limits) (l t m : List ℕ) where
   pub record Accepts : Type 0 where
     pub action : Action
@@ -28,14 +27,11 @@ module _ (limits : Limits) (l t m : List ℕ) where
     pub fitting : Fits limits l t m action
     pub answer : submitted limits l t m ≡ accepted action l t m
 
-  pub record Refuses (n : ℕ) : Type 0 where
-    pub verdict : verdictOn limits l t m .0 ≡ suc n
-    pub answer : submitted limits l t m ≡ refused (verdictOn limits l t m) l t
-
   same-verdict : (n : ℕ) → verdictOn limits l t m .0 ≡ n → submitted limits l t m .verdict ≡ verdictOn limits l t m .0
   same-verdict zero e = let c : Accepting limits l t m = accepting limits l t m e in ap (λ s. s .verdict) (is-accepted limits l t m c e) ∙ sym e
   same-verdict (suc n) e = ap (λ s. s .verdict) (is-refused limits l t m n e)
 
+  -- the answer's verdict is that of the first rule broken
   pub verdict-is : submitted limits l t m .verdict ≡ verdictOn limits l t m .0
   verdict-is = same-verdict (verdictOn limits l t m .0) refl
 
@@ -45,16 +41,14 @@ module _ (limits : Limits) (l t m : List ℕ) where
       let c : Accepting limits l t m = accepting limits l t m e in
       record { action = c .action; reads = c .reads; fitting = fits limits l t m c; answer = is-accepted limits l t m c e }
 
-  pub refuses : (n : ℕ) → submitted limits l t m .verdict ≡ suc n → Refuses n
-  refuses n v =
-      let e : verdictOn limits l t m .0 ≡ suc n = sym verdict-is ∙ v in
-      record { verdict = e; answer = is-refused limits l t m n e }
+  pub refuses : (n : ℕ) → submitted limits l t m .verdict ≡ suc n → submitted limits l t m ≡ refused (verdictOn limits l t m) l t
+  refuses n v = is-refused limits l t m n (sym verdict-is ∙ v)
 
   -- ---- a refusal
 
   module _ (n : ℕ) (v : submitted limits l t m .verdict ≡ suc n) where
     pub refused-ledger : submitted limits l t m .ledger ≡ l
-    refused-ledger = ap (λ s. s .ledger) (refuses n v .answer)
+    refused-ledger = ap (λ s. s .ledger) (refuses n v)
 
     pub refused-publishes : publishes limits l (submit m t) ≡ false
     unfolding publishes

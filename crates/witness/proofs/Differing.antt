@@ -1,14 +1,14 @@
 -- The two histories differ. Assumes nothing.
 use Prim.Native.Nat.{ℕ}
-use mathlib.Core.Bool.{true, not, false≢true}
-use mathlib.Core.Path.{_≡_, refl, sym, ap, _∙_}
+use mathlib.Core.Bool.{true, not}
+use mathlib.Core.Path.{_≡_, refl}
 use mathlib.Core.List.{List}
 use lib.ListN.{length}
 use lib.Dec.{eqb}
 use borrow.Author.Tests.{eqb-false, not-true}
 use Rattle.octets.specs.Search.{all}
 use Rattle.octets.specs.Same.{sameBytes}
-use Rattle.octets.proofs.SameLaws.{same-refl}
+use Rattle.octets.proofs.SameLaws.{same-apart}
 use Rattle.witness.specs.Histories.{left, leftLedger, right, rightLedger}
 use Rattle.witness.specs.Differences.{hiddenCodes, fullPlaces, hidden, exact, bufferSize, Differ}
 use Rattle.witness.proofs.AlikeTest.{at-place}
@@ -16,7 +16,7 @@ use Rattle.witness.proofs.Computing.{computing}
 
 -- bytes that the test tells apart are not equal
 told-apart : (u v : List ℕ) → not (sameBytes u v) ≡ true → u ≡ v → ⊥
-told-apart u v e p = false≢true (sym (not-true (sameBytes u v) e) ∙ ap (sameBytes u) (sym p) ∙ same-refl u)
+told-apart u v e = same-apart u v (not-true (sameBytes u v) e)
 
 numbers-apart : (a b : ℕ) → not (eqb a b) ≡ true → a ≡ b → ⊥
 numbers-apart a b e = eqb-false a b (not-true (eqb a b) e)

@@ -4,9 +4,10 @@ use Prim.Native.Nat.{_+_, _-_}
 use native.Mathlib.Nat.{add-sub-cancel-left}
 use denote.Ref.{now}
 use lib.ListN.{take, drop}
-use Rattle.octets.proofs.PartLaws.{length-part, lent-back}
+use Rattle.octets.proofs.PartLaws.{lent-back}
 use Rattle.ledger.specs.Layout.{rowSize, rowStart}
 use Rattle.ledger.specs.Rows.{rowAt, rowAfter}
+use Rattle.ledger.proofs.RowLaws.{length-row}
 use Rattle.ledger.proofs.RowAfterLaws.{length-row-after}
 use borrow.Author.Needs.{needs}
 use Rattle.ledger.proofs.rows.store_row.Statement.{statement}
@@ -20,7 +21,7 @@ returns c =
     let a = s .args in
     let l = now (a .l) in
     let row : take (rowStart (a .k) + rowSize - rowStart (a .k)) (drop (rowStart (a .k)) l) ≡ rowAt l (a .k) = rw add-sub-cancel-left in
-    lent-back _ _ _ _ _ (update .update-row .ensures ∙ ap (rowAfter (a .a) (a .status) (now (a .uti)) (a .identifier) (now (a .terms))) row) (length-row-after (a .a) _ _ _ _ _ (s .pre .2) (length-part l (rowStart (a .k)) rowSize (search needs)))
+    lent-back _ _ _ _ _ (update .update-row .ensures ∙ ap (rowAfter (a .a) (a .status) (now (a .uti)) (a .identifier) (now (a .terms))) row) (length-row-after (a .a) _ _ _ _ _ (s .pre .2) (length-row l (a .k) (search needs)))
 
 pub store-row-spec : {M : Type 1} → statement M
 store-row-spec =
