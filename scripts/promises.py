@@ -5,6 +5,7 @@ A name stands in back quotes and is one of
   crate/specs/File.antt#name       a definition; crate/proofs/File.antt#name: a law
   crate/must-fail/label.edit       a must-fail edit of the gate
   vectors#word                     lines of crates/vectors/stdin that open with the word
+  host/dir/file.rs#test            a test of the host project
 Anything else in back quotes is an error, and so is a must-fail edit or a public function that the document does not name.
 
 A quotation is a block that opens with three back quotes and the name of a file, as in crate/specs/File.antt. Its lines must stand in that file, one
@@ -32,12 +33,17 @@ def function_exists(name):
     files = [CRATES / crate / "src" / source]
     if not modules:
         files += sorted((CRATES / crate / "src").glob("*.rt"))
-    return any(re.search(r"^\s*(?:pub )?fn %s\b" % re.escape(function), text(f) or "", re.M) for f in files)
+    return any(re.search(r"^\s*(?:pub )?(?:extern \"C\" )?fn %s\b" % re.escape(function), text(f) or "", re.M) for f in files)
 
 
 def definition_exists(name):
     path, _, word = name.partition("#")
     return re.search(r"^\s*(?:abbrev |unfoldable )?pub (?:record |data )?%s(?=[\s:])" % re.escape(word), text(CRATES / path) or "", re.M)
+
+
+def host_test_exists(name):
+    path, _, word = name.partition("#")
+    return re.search(r"^#\[test\]\nfn %s\(" % re.escape(word), text(pathlib.Path(path)) or "", re.M)
 
 
 def vector_exists(name):
@@ -48,6 +54,8 @@ def vector_exists(name):
 def exists(name):
     if name.startswith("vectors#"):
         return vector_exists(name)
+    if re.fullmatch(r"host/[\w/]+\.rs#\w+", name):
+        return host_test_exists(name)
     if re.fullmatch(r"[a-z_]+(::[a-z_0-9]+)+", name):
         return function_exists(name)
     if re.fullmatch(r"[a-z_]+/(specs|proofs)/[\w/]+\.antt#\S+", name):
@@ -61,7 +69,7 @@ def public_functions():
     """The functions that a library hands out: pub in lib.rt, or re-exported there."""
     for lib in sorted(CRATES.glob("*/src/lib.rt")):
         crate, source = lib.parts[1], text(lib)
-        for name in re.findall(r"^pub fn (\w+)", source, re.M):
+        for name in re.findall(r"^pub (?:extern \"C\" )?fn (\w+)", source, re.M):
             yield "%s::%s" % (crate, name)
         for module, name in re.findall(r"^pub use (\w+)::(\w+);", source, re.M):
             if re.search(r"^pub fn %s\b" % name, text(lib.parent / (module + ".rt")), re.M):

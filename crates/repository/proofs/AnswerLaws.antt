@@ -3,8 +3,7 @@ use Prim.Native.Nat.{ℕ, _+_, _*_, _/_, _%_, _<_}
 use mathlib.Core.Path.{_≡_, ap, _∙_}
 use native.Mathlib.Nat.{zero-add, mod-eq-of-lt, div-eq-of-lt, add-mul-mod-self-right, add-mul-div-right}
 use native.Mathlib.Omega.{arith}
-use Rattle.repository.specs.declared.answer.Answer.{Answer}
-use Rattle.repository.specs.Answers.{answerOf, byte, elementUnit, statusUnit, identifierUnit, packed, answerIn}
+use Rattle.repository.specs.Answers.{answerOf, byte, elementUnit, statusUnit, identifierUnit, packed, answerIn, Number-carries}
 
 -- a number below a unit beside a multiple of the unit
 low : (r x u : ℕ) → r < u → (r + x * u) % u ≡ r
@@ -26,7 +25,10 @@ recovered v e s i hv he hs =
     let fourth : n / identifierUnit ≡ i = high (v + e * elementUnit + s * statusUnit) i identifierUnit (omega arith) in
     rw (first, second, third, fourth)
 
--- and no other number carries these fields
-pub only-number : (n : ℕ) → packed (answerIn n) ≡ n
+-- and no other number has these fields
+only-number : (n : ℕ) → packed (answerIn n) ≡ n
 unfolding packed answerIn
 only-number n = omega arith
+
+pub number-carries : Number-carries
+number-carries = (recovered, only-number)

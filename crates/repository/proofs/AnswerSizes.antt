@@ -14,7 +14,7 @@ use Rattle.actions.specs.Statuses.{live, ported}
 use Rattle.ledger.specs.Layout.{u32, lastIdentifier}
 use Rattle.ledger.specs.Header.{nextIdentifier, headerRight}
 use Rattle.ledger.specs.Rows.{statusOf, identifierOf, isKnown, swapRow, swapIdentifier}
-use Rattle.ledger.proofs.RightHeader.{RightHeader, right-header}
+use Rattle.ledger.proofs.RightHeader.{right-header}
 use Rattle.submission.specs.Opening.{Limits}
 use Rattle.submission.specs.Submission.{rowRight, hasWrongRow, submitted}
 use Rattle.submission.specs.Status.{asked}

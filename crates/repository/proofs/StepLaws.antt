@@ -1,12 +1,12 @@
 -- The decision beside the definition of a submission, and what the writes of a step may rely on. Assumes nothing.
-use Prim.Native.Nat.{ℕ, _+_, _^_, _<_, _≤_}
+use Prim.Native.Nat.{ℕ, _^_, _<_, _≤_}
 use mathlib.Core.Bool.{Bool, true, false}
 use mathlib.Core.Path.{_≡_, refl, sym, ap, _∙_, subst}
 use mathlib.Core.List.{List}
 use native.Mathlib.Omega.{arith}
 use lib.ListN.{length}
-use lib.Dec.{eqb, ltb}
-use borrow.Author.Tests.{eqb-true, ltb-true, ltb-false}
+use lib.Dec.{eqb}
+use borrow.Author.Tests.{eqb-true, ltb-false}
 use Rattle.octets.specs.Choice.{choose}
 use Rattle.octets.specs.Part.{splice}
 use Rattle.octets.proofs.SearchLaws.{first-most}
@@ -15,11 +15,11 @@ use Rattle.actions.specs.declared.Checked.{Checked}
 use Rattle.actions.specs.declared.Checked.the-variants as checked
 use Rattle.actions.specs.Actions.{isFull, isNew, writesLine}
 use Rattle.actions.specs.Statuses.{nextStatus}
-use Rattle.ledger.specs.Layout.{u32, utiSize, rowStart, lastIdentifier}
+use Rattle.ledger.specs.Layout.{u32, utiSize, rowStart}
 use Rattle.notional.specs.Masking.{largestCap}
 use Rattle.ledger.specs.declared.header.Caps.{Caps}
 use Rattle.ledger.specs.declared.header.Header.{Header}
-use Rattle.ledger.specs.Header.{rowsInUse, nextIdentifier, capacityIn, capsIn, capFor, areCaps, headerOf}
+use Rattle.ledger.specs.Header.{rowsInUse, nextIdentifier, capsIn, capFor, areCaps, headerOf}
 use Rattle.ledger.specs.Rows.{holdsUti, rowAt, storedTerms, placeIn, placeOf, isKnown, swapStatus, swapIdentifier, rowAfter, headerAfter}
 use Rattle.ledger.specs.Line.{line}
 use Rattle.ledger.proofs.HeaderLaws.{cap-for-largest}

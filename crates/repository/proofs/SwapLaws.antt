@@ -12,7 +12,6 @@ use Rattle.values.specs.Run.{within}
 use Rattle.actions.specs.Statuses.{unknown, live, ported}
 use Rattle.ledger.specs.Layout.{rowStart}
 use Rattle.ledger.specs.declared.header.Header.{Header}
-use Rattle.ledger.specs.declared.header.HeaderCheck.{HeaderCheck}
 use Rattle.ledger.specs.declared.header.HeaderCheck.the-variants as header
 use Rattle.ledger.specs.Header.{rowsInUse, nextIdentifier, headerRight, headerOf, checkedHeader}
 use Rattle.ledger.specs.Rows.{rowAt, statusOf, identifierOf, placeOf, isKnown, swapStatus, swapIdentifier}

@@ -1,5 +1,6 @@
 -- Document 01, 'Verdict numbers': what the operations answer, and the one number that carries an answer to a C host.
-use Prim.Native.Nat.{ℕ, _+_, _*_, _/_, _%_, _^_}
+use Prim.Native.Nat.{ℕ, _+_, _*_, _/_, _%_, _^_, _<_}
+use mathlib.Core.Path.{_≡_}
 use Rattle.submission.specs.Opening.{Limits}
 use Rattle.submission.specs.Submission.{Submitted}
 use Rattle.submission.specs.Status.{Asked}
@@ -45,6 +46,11 @@ identifierLimit = 2 ^ 40
 unfoldable pub packed : Answer → ℕ
 packed a = a .verdict + a .element * elementUnit + a .status * statusUnit + a .identifier * identifierUnit
 
--- the fields of a number, as the accessors of sdr.h read them
+-- the fields of a number, as the accessors of include/sdr.h read them
 unfoldable pub answerIn : ℕ → Answer
 answerIn n = answerOf (n % byte) (n / elementUnit % byte) (n / statusUnit % byte) (n / identifierUnit)
+
+-- each field of an answer is recovered from its number, and no other number has these fields
+abbrev pub Number-carries : Type 0
+Number-carries =
+    ((v e s i : ℕ) → v < byte → e < byte → s < byte → answerIn (packed (answerOf v e s i)) ≡ answerOf v e s i) × ((n : ℕ) → packed (answerIn n) ≡ n)

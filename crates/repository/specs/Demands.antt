@@ -1,9 +1,10 @@
--- The demands, as the contracts of the exported operations cite them: each is a theorem of `submission`.
+-- The demands, as the contracts of the exported operations cite them: each is a theorem of `submission`. An answer in one number has its own law.
 use Rattle.submission.specs.Demand1.{Submission-answers, Opening-answers, Question-answers}
 use Rattle.submission.specs.Demand2.{Verdict-exactly, Checking-order, Accepted-exactly, Acceptance-writes, Opening-exactly, Opening-writes, Question-exactly}
 use Rattle.submission.specs.Demand3.{Same-tapes}
 use Rattle.submission.specs.Published.{Tape-told}
 use Rattle.submission.specs.Counting.{Identifier-with-line, Identifier-counts, Quiet-call}
+use Rattle.repository.specs.Answers.{Number-carries}
 
 -- opening: demands 1 and 2
 abbrev pub Opening-demands : Type 0
@@ -21,7 +22,8 @@ pub record Submission-demands : Type 0 where
   pub line : Identifier-with-line
   pub counts : Identifier-counts
   pub quiet : Quiet-call
+  pub number : Number-carries
 
 -- the status question: demands 1 and 2
 abbrev pub Question-demands : Type 0
-Question-demands = Question-answers × Question-exactly
+Question-demands = Question-answers × Question-exactly × Number-carries

@@ -10,7 +10,7 @@ ghost use mathlib.Core.Path.{_≡_};
 ghost use Rattle.submission.specs.Opening.{documentLimits, opened};
 ghost use Rattle.submission.specs.Submission.{submitted};
 ghost use Rattle.submission.specs.Status.{asked};
-ghost use Rattle.repository.specs.Answers.{submissionAnswer, questionAnswer, packed, answerIn};
+ghost use Rattle.repository.specs.Answers.{submissionAnswer, questionAnswer, answerIn};
 ghost use Rattle.repository.specs.Demands.{Opening-demands, Submission-demands, Question-demands};
 use answer::pack;
 use ledger::Caps;

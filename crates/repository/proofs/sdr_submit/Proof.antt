@@ -1,5 +1,5 @@
 -- `repository::sdr_submit` meets its contract. Assumes nothing.
-use mathlib.Core.Path.{_∙_, ap}
+use mathlib.Core.Path.{_∙_}
 use Prim.Native.Nat.{_<_}
 use lib.Dec.{lit<}
 use Rattle.submission.specs.Opening.{documentLimits}
@@ -7,9 +7,8 @@ use Rattle.submission.proofs.Demand1.{submission-answers}
 use Rattle.submission.proofs.Demand2.{verdict-exactly, checking-order, accepted-exactly, acceptance-writes}
 use Rattle.submission.proofs.Demand3.{tape-told, same-tapes}
 use Rattle.submission.proofs.Counting.{identifier-with-line, identifier-counts, quiet-call}
-use Rattle.repository.specs.declared.answer.Answer.{Answer}
-use Rattle.repository.specs.Answers.{identifierLimit}
 use Rattle.repository.specs.Demands.{Submission-demands}
+use Rattle.repository.proofs.AnswerLaws.{number-carries}
 use Rattle.repository.proofs.AnswerSizes.{carried, submission-small}
 use borrow.Author.Needs.{needs}
 use Rattle.repository.proofs.sdr_submit.Statement.{statement}
@@ -28,6 +27,7 @@ demands =
       line = identifier-with-line;
       counts = identifier-counts;
       quiet = quiet-call;
+      number = number-carries;
     }
 
 pack-requires : tie.Need-pack-requires

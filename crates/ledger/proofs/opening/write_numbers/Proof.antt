@@ -1,8 +1,6 @@
 -- `ledger::opening::write_numbers` meets its contract. Assumes nothing.
-use mathlib.Core.Path.{_∙_, sym}
 use Rattle.octets.proofs.NumberLaws.{length-toLe}
 use Rattle.octets.proofs.FieldRun.{then-exact, last-exact, written-append}
-use Rattle.octets.specs.Fields.{written}
 use Rattle.ledger.specs.Layout.{u32, u64, rowsAt}
 use Rattle.ledger.specs.Header.{capFields, headerFields}
 use Rattle.ledger.proofs.NewHeader.{header-written}

@@ -4,7 +4,6 @@ use lib.ListN.{length}
 use denote.Ref.{now}
 use Rattle.terms.specs.Terms.{termsOf}
 use Rattle.ledger.specs.Header.{capFor}
-use Rattle.ledger.proofs.HeaderLaws.{cap-for-largest}
 use Rattle.ledger.proofs.RowLaws.{length-row}
 use Rattle.submission.specs.Submission.{maskedTerms}
 use Rattle.submission.proofs.Lookup.{length-stored}

@@ -1,5 +1,5 @@
 -- `repository::operations::status` meets its contract. Assumes nothing.
-use mathlib.Core.Bool.{true, false}
+use mathlib.Core.Bool.{true}
 use mathlib.Core.Path.{_≡_, sym, _∙_}
 use borrow.Author.Tests.{not-true, not-false}
 use denote.Ref.{now}
@@ -8,10 +8,7 @@ use Rattle.elements.specs.Forms.{hasForm}
 use Rattle.rules.specs.Findings.{firstBroken}
 use Rattle.ledger.specs.declared.header.Header.{Header}
 use Rattle.ledger.specs.Header.{headerRight, headerOf}
-use Rattle.submission.specs.Submission.{hasWrongRow}
 use Rattle.submission.specs.Status.{statusRules, asked}
-use Rattle.repository.specs.declared.swap.Swap.{Swap}
-use Rattle.repository.specs.Decision.{swapIn}
 use Rattle.repository.proofs.SwapLaws.{header-fault, header-value, used-fit, swap-fault, swap-value}
 use borrow.Author.Needs.{needs}
 use Rattle.repository.proofs.operations.status.Statement.{statement}

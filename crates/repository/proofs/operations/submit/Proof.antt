@@ -1,12 +1,9 @@
 -- `repository::operations::submit` meets its contract. Assumes nothing.
-use mathlib.Core.Path.{_≡_, sym, ap, _∙_}
-use Prim.Native.Nat.{_<_, _^_}
-use native.Mathlib.Omega.{arith}
+use mathlib.Core.Path.{sym, ap, _∙_}
 use denote.Ref.{now}
-use Rattle.ledger.specs.Layout.{u32}
 use Rattle.submission.specs.Opening.{Limits}
 use Rattle.repository.specs.Answers.{limitsOf}
-use Rattle.repository.specs.Decision.{decisionAnswer, decision}
+use Rattle.repository.specs.Decision.{decisionAnswer}
 use Rattle.repository.proofs.StepLaws.{decision-answers, decision-writes, fitting}
 use borrow.Author.Needs.{needs}
 use Rattle.repository.proofs.operations.submit.Statement.{statement}

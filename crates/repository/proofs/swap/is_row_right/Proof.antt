@@ -5,7 +5,6 @@ use Prim.Native.Nat.{ℕ, _-_, _≤_}
 use native.Mathlib.Omega.{arith}
 use lib.Dec.{leb, ltb}
 use borrow.Author.Tests.{ltb-true, ltb-false, le-leb, lt-leb}
-use borrow.Author.Needs.{needs}
 use Rattle.repository.proofs.swap.is_row_right.Statement.{statement}
 use Rattle.repository.proofs.swap.is_row_right.Tie as tie
 
