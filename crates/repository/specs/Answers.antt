@@ -1,6 +1,7 @@
--- Document 01, 'Verdict numbers': what the operations answer, and the one number that carries an answer to a C host.
+-- Document 01, 'Verdict numbers': what the operations are given and answer, and the one number that carries an answer to a C host.
 use Prim.Native.Nat.{ℕ, _+_, _*_, _/_, _%_, _^_, _<_}
 use mathlib.Core.Path.{_≡_}
+use Rattle.ledger.specs.declared.header.Caps.{Caps}
 use Rattle.submission.specs.Opening.{Limits}
 use Rattle.submission.specs.Submission.{Submitted}
 use Rattle.submission.specs.Status.{Asked}
@@ -9,6 +10,10 @@ use Rattle.repository.specs.declared.answer.Answer.{Answer}
 -- limits are parameters of the inner functions
 abbrev pub limitsOf : ℕ → ℕ → Limits
 limitsOf longest largest = record { longest = longest; largest = largest }
+
+-- opening takes the caps of CR, IR, FX, EQ and CO
+abbrev pub capsOf : ℕ → ℕ → ℕ → ℕ → ℕ → Caps
+capsOf cr ir fx eq co = record { cr = cr; ir = ir; fx = fx; eq = eq; co = co }
 
 abbrev pub answerOf : ℕ → ℕ → ℕ → ℕ → Answer
 answerOf verdict element status identifier = record { verdict = verdict; element = element; status = status; identifier = identifier }

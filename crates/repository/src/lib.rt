@@ -10,7 +10,7 @@ ghost use mathlib.Core.Path.{_≡_};
 ghost use Rattle.submission.specs.Opening.{documentLimits, opened};
 ghost use Rattle.submission.specs.Submission.{submitted};
 ghost use Rattle.submission.specs.Status.{asked};
-ghost use Rattle.repository.specs.Answers.{submissionAnswer, questionAnswer, answerIn};
+ghost use Rattle.repository.specs.Answers.{capsOf, submissionAnswer, questionAnswer, answerIn};
 ghost use Rattle.repository.specs.Demands.{Opening-demands, Submission-demands, Question-demands};
 use answer::pack;
 use ledger::Caps;
@@ -33,8 +33,8 @@ pub extern "C" fn sdr_open(
     cap_eq: u64,
     cap_co: u64,
 ) -> u32
-    ensures { λ r. ⌜ r ≡ opened documentLimits (record { cr = «cap_cr»; ir = «cap_ir»; fx = «cap_fx»; eq = «cap_eq»; co = «cap_co» }) (now (ledger .entry)) .verdict ⌝ }
-    ensures { λ _. ⌜ now (ledger .exit) ≡ opened documentLimits (record { cr = «cap_cr»; ir = «cap_ir»; fx = «cap_fx»; eq = «cap_eq»; co = «cap_co» }) (now (ledger .entry)) .ledger ⌝ }
+    ensures { λ r. ⌜ r ≡ opened documentLimits (capsOf «cap_cr» «cap_ir» «cap_fx» «cap_eq» «cap_co») (now (ledger .entry)) .verdict ⌝ }
+    ensures { λ _. ⌜ now (ledger .exit) ≡ opened documentLimits (capsOf «cap_cr» «cap_ir» «cap_fx» «cap_eq» «cap_co») (now (ledger .entry)) .ledger ⌝ }
     ensures { λ _. ⌜ Opening-demands ⌝ }
 {
     let caps = Caps {
