@@ -1,0 +1,122 @@
+//! Section "Elements": the table of codes, and the seven actions.
+
+use crate::forms::{
+    is_allocation, is_amount, is_asset_class, is_capitals, is_cleared, is_date, is_lei,
+    is_notation, is_package_identifier, is_price, is_time, is_truth, is_uti,
+};
+
+/// Codes run from 1 to 25.
+pub const HIGHEST_CODE: u16 = 25;
+
+pub const UTI: u16 = 1;
+pub const ACTION: u16 = 2;
+pub const EVENT: u16 = 3;
+pub const EVENT_TIME: u16 = 4;
+pub const REPORTING_TIME: u16 = 5;
+pub const EXECUTION_TIME: u16 = 6;
+pub const EFFECTIVE: u16 = 7;
+pub const EXPIRATION: u16 = 8;
+pub const SETTLEMENT: u16 = 9;
+pub const CLEARED: u16 = 10;
+pub const NON_STANDARDIZED: u16 = 11;
+pub const BLOCK: u16 = 12;
+pub const LARGE: u16 = 13;
+pub const ALLOCATION: u16 = 14;
+pub const PACKAGE: u16 = 15;
+pub const PACKAGE_IDENTIFIER: u16 = 16;
+pub const PRICE: u16 = 17;
+pub const NOTATION: u16 = 18;
+pub const PRICE_CURRENCY: u16 = 19;
+pub const NOTIONAL: u16 = 20;
+pub const NOTIONAL_CURRENCY: u16 = 21;
+pub const LOCATION: u16 = 22;
+pub const COUNTERPARTY_1: u16 = 23;
+pub const COUNTERPARTY_2: u16 = 24;
+pub const ASSET_CLASS: u16 = 25;
+
+/// "TERM, EROR and PRTO take codes 1 to 5 only."
+pub const HIGHEST_CODE_NOT_FULL: u16 = 5;
+
+/// Column "Needed". "By pair" is rule 10, the "if" entries are rule 11.
+#[derive(Clone, Copy, PartialEq, Eq)]
+pub enum Needed {
+    All,
+    Full,
+    ByPair,
+    If,
+    Optional,
+}
+
+pub fn needed(code: u16) -> Needed {
+    match code {
+        UTI | ACTION | EVENT_TIME | REPORTING_TIME => Needed::All,
+        EVENT => Needed::ByPair,
+        NON_STANDARDIZED | PACKAGE_IDENTIFIER | PRICE | NOTATION | PRICE_CURRENCY => Needed::If,
+        LOCATION => Needed::Optional,
+        _ => Needed::Full,
+    }
+}
+
+/// Column "Form". The action's form is rule 6 and is asked there.
+pub fn has_form(code: u16, v: &[u8]) -> bool {
+    match code {
+        UTI => is_uti(v),
+        ACTION => Action::read(v).is_some(),
+        EVENT => is_capitals(v, 4),
+        EVENT_TIME | REPORTING_TIME | EXECUTION_TIME => is_time(v),
+        EFFECTIVE | EXPIRATION | SETTLEMENT => is_date(v),
+        CLEARED => is_cleared(v),
+        NON_STANDARDIZED | BLOCK | LARGE | PACKAGE => is_truth(v),
+        ALLOCATION => is_allocation(v),
+        PACKAGE_IDENTIFIER => is_package_identifier(v),
+        PRICE => is_price(v),
+        NOTATION => is_notation(v),
+        PRICE_CURRENCY | NOTIONAL_CURRENCY => is_capitals(v, 3),
+        NOTIONAL => is_amount(v),
+        LOCATION => is_capitals(v, 2),
+        COUNTERPARTY_1 | COUNTERPARTY_2 => is_lei(v),
+        ASSET_CLASS => is_asset_class(v),
+        _ => false,
+    }
+}
+
+/// Action type, code 2: one of the seven.
+#[derive(Clone, Copy, Debug, PartialEq, Eq)]
+pub enum Action {
+    Newt,
+    Modi,
+    Corr,
+    Term,
+    Eror,
+    Revi,
+    Prto,
+}
+
+impl Action {
+    /// "Codes are matched byte for byte; TERM is not term."
+    pub fn read(v: &[u8]) -> Option<Action> {
+        match v {
+            b"NEWT" => Some(Action::Newt),
+            b"MODI" => Some(Action::Modi),
+            b"CORR" => Some(Action::Corr),
+            b"TERM" => Some(Action::Term),
+            b"EROR" => Some(Action::Eror),
+            b"REVI" => Some(Action::Revi),
+            b"PRTO" => Some(Action::Prto),
+            _ => None,
+        }
+    }
+
+    /// "Full" means messages whose action is NEWT, MODI, CORR or REVI.
+    pub fn is_full(self) -> bool {
+        matches!(
+            self,
+            Action::Newt | Action::Modi | Action::Corr | Action::Revi
+        )
+    }
+
+    /// "every accepted message but PRTO writes one" (a tape line)
+    pub fn writes_line(self) -> bool {
+        self != Action::Prto
+    }
+}

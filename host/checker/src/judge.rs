@@ -1,0 +1,145 @@
+//! The three operations: open a ledger, submit one message, ask the status of
+//! one swap.
+
+use crate::elements::{Action, ACTION, EVENT, EVENT_TIME, UTI};
+use crate::forms::is_uti;
+use crate::ledger::{
+    add_row, change_row, end_row, find, port_row, raise_next_identifier, row_at, write_header,
+    Header,
+};
+use crate::line::{masked_terms, write_line, Lead};
+use crate::message::Values;
+use crate::rules::{
+    refusal_at, rule_10_pair, rule_11_conditional, rule_12_price, rule_13_order, rule_14_row,
+    rule_15_status, rule_16_execution_time, rule_17_capacity, rule_18_identifiers, rule_1_buffer,
+    rule_2_caps, rule_3_ledger, rule_4_tape, rule_5_layout, rule_6_action, rule_7_needed,
+    rule_8_above_5, rule_9_forms, Answer, Judged,
+};
+
+/// Opens a ledger over a lent buffer. The caps are in the order CR, IR, FX,
+/// EQ, CO. Answers the verdict.
+pub fn open(ledger: &mut [u8], caps: &[u64; 5]) -> u8 {
+    if let Err(answer) = rule_1_buffer(ledger).and_then(|()| rule_2_caps(caps)) {
+        return answer.verdict;
+    }
+    write_header(ledger, caps);
+    0
+}
+
+/// Submits one message.
+pub fn submit(ledger: &mut [u8], tape: &mut [u8], message: &[u8]) -> Answer {
+    match judge(ledger, tape, message) {
+        Ok(accepted) => carry_out(ledger, tape, &accepted),
+        Err(answer) => answer,
+    }
+}
+
+/// Asks the status of one swap: "answers 3, then 9 with element 1, then 14,
+/// else the status, 0 for an unknown swap, and the last identifier".
+pub fn status(ledger: &[u8], uti: &[u8]) -> Answer {
+    match ask(ledger, uti) {
+        Ok(answer) | Err(answer) => answer,
+    }
+}
+
+fn ask(ledger: &[u8], uti: &[u8]) -> Judged<Answer> {
+    let header = rule_3_ledger(ledger)?;
+    if !is_uti(uti) {
+        return Err(refusal_at(9, UTI));
+    }
+    let Some((_, row)) = find(ledger, &header, uti) else {
+        return Ok(Answer::default());
+    };
+    rule_14_row(Some(row), &header)?;
+    Ok(Answer {
+        status: row.status(),
+        identifier: row.identifier(),
+        ..Answer::default()
+    })
+}
+
+/// A message that every rule lets pass, and what carrying it out needs.
+struct Accepted<'a> {
+    header: Header,
+    values: Values<'a>,
+    action: Action,
+    /// Place and last identifier of the swap's row; None for NEWT.
+    row: Option<(usize, u64)>,
+    new_status: u8,
+}
+
+/// Rules 3 to 18, in checking order. Nothing is written.
+fn judge<'a>(ledger: &[u8], tape: &[u8], message: &'a [u8]) -> Judged<Accepted<'a>> {
+    let header = rule_3_ledger(ledger)?;
+    rule_4_tape(tape)?;
+    let values = rule_5_layout(message)?;
+    let action = rule_6_action(&values)?;
+    rule_7_needed(&values, action)?;
+    rule_8_above_5(&values, action)?;
+    rule_9_forms(&values)?;
+    rule_10_pair(&values)?;
+    rule_11_conditional(&values)?;
+    rule_12_price(&values)?;
+    rule_13_order(&values, action)?;
+    let found = find(ledger, &header, values.present(UTI));
+    let row = found.map(|(_, row)| row);
+    rule_14_row(row, &header)?;
+    let new_status = rule_15_status(row, action)?;
+    rule_16_execution_time(row, &values, action)?;
+    rule_17_capacity(&header, action)?;
+    rule_18_identifiers(&header, action)?;
+    Ok(Accepted {
+        header,
+        values,
+        action,
+        row: found.map(|(place, row)| (place, row.identifier())),
+        new_status,
+    })
+}
+
+/// Writes what sections "The ledger" and "The tape line" name for an accepted
+/// message. No rule is left that could refuse.
+fn carry_out(ledger: &mut [u8], tape: &mut [u8], accepted: &Accepted) -> Answer {
+    let Accepted {
+        header,
+        values,
+        action,
+        row,
+        new_status,
+    } = accepted;
+    let lead = Lead {
+        identifier: header.next_identifier,
+        previous: row.map(|(_, identifier)| identifier),
+        action: values.present(ACTION),
+        event: values.get(EVENT),
+        event_time: values.present(EVENT_TIME),
+    };
+    match (action, *row) {
+        (Action::Prto, Some((place, _))) => {
+            port_row(ledger, place, *new_status);
+            return Answer::default();
+        }
+        (Action::Term | Action::Eror, Some((place, _))) => {
+            end_row(ledger, place, *new_status, lead.identifier);
+            // "TERM and EROR show the stored terms."
+            write_line(tape, &lead, row_at(ledger, place).terms());
+        }
+        (_, Some((place, _))) => {
+            let terms = masked_terms(values, &header.caps);
+            change_row(ledger, place, *new_status, lead.identifier, &terms);
+            write_line(tape, &lead, &terms);
+        }
+        (_, None) => {
+            // Only NEWT passes rule 15 without a row.
+            let terms = masked_terms(values, &header.caps);
+            let uti = values.present(UTI);
+            add_row(ledger, header, *new_status, uti, lead.identifier, &terms);
+            write_line(tape, &lead, &terms);
+        }
+    }
+    raise_next_identifier(ledger, header);
+    Answer {
+        identifier: lead.identifier,
+        ..Answer::default()
+    }
+}

@@ -1,0 +1,28 @@
+//! A plain checker of swap data messages, written to be read beside
+//! document 01 (messages, ledger, tape). Document 000 gives Appendix F.
+//!
+//! The section or the rule of document 01 is named at each function; "rule"
+//! means an entry of its "Verdict numbers, in checking order".
+//!
+//! Judging takes no memory from the heap and never panics, whatever the bytes.
+
+#![forbid(unsafe_code)]
+
+mod amounts;
+mod elements;
+mod forms;
+mod judge;
+mod ledger;
+mod line;
+mod matrix;
+mod message;
+mod price;
+mod rules;
+
+pub use amounts::{is_cap, masked};
+pub use forms::{is_amount, is_date, is_lei, is_price, is_time, is_uti};
+pub use judge::{open, status, submit};
+pub use matrix::is_pair;
+pub use message::{layout_right, value};
+pub use price::{price_too_long, shown_price};
+pub use rules::Answer;

@@ -1,0 +1,91 @@
+//! Section "The message".
+
+use crate::elements::HIGHEST_CODE;
+
+/// "The longest message is 2,048 bytes."
+const LONGEST: usize = 2_048;
+
+/// The values of one message by element code, each a part of the message.
+pub struct Values<'a> {
+    by_code: [Option<&'a [u8]>; HIGHEST_CODE as usize + 1],
+}
+
+impl<'a> Values<'a> {
+    /// Reads the header. None where the layout is wrong (rule 5).
+    pub fn read(message: &'a [u8]) -> Option<Values<'a>> {
+        if message.len() > LONGEST {
+            return None;
+        }
+        // "a u16 count n (0 to 25)"
+        let count = u16_at(message, 0)?;
+        if count > HIGHEST_CODE {
+            return None;
+        }
+        let mut by_code = [None; HIGHEST_CODE as usize + 1];
+        // "With n = 0 the message is 2 bytes."
+        if count == 0 {
+            return (message.len() == 2).then_some(Values { by_code });
+        }
+        let (mut code, mut start) = entry(message, 0)?;
+        // "The first offset is 2 + 4 times n."
+        if !is_code(code) || start != 2 + 4 * usize::from(count) || start >= message.len() {
+            return None;
+        }
+        for i in 1..usize::from(count) {
+            let (next_code, next_start) = entry(message, i)?;
+            // "Codes lie in 1 to 25 and rise strictly."
+            if !is_code(next_code) || next_code <= code {
+                return None;
+            }
+            // "Offsets rise strictly and each is below the message's length."
+            if next_start <= start || next_start >= message.len() {
+                return None;
+            }
+            // "A value runs to the next offset"
+            by_code[usize::from(code)] = message.get(start..next_start);
+            (code, start) = (next_code, next_start);
+        }
+        // "the last one to the end"
+        by_code[usize::from(code)] = message.get(start..);
+        Some(Values { by_code })
+    }
+
+    /// The value of an element, None where the message does not have it.
+    pub fn get(&self, code: u16) -> Option<&'a [u8]> {
+        self.by_code.get(usize::from(code)).copied().flatten()
+    }
+
+    /// The value of an element that rule 7 or 11 has found present.
+    pub fn present(&self, code: u16) -> &'a [u8] {
+        self.get(code).unwrap_or(&[])
+    }
+}
+
+fn is_code(code: u16) -> bool {
+    (1..=HIGHEST_CODE).contains(&code)
+}
+
+/// Entry i of the header: element code and offset.
+fn entry(message: &[u8], i: usize) -> Option<(u16, usize)> {
+    let code = u16_at(message, 2 + 4 * i)?;
+    let offset = u16_at(message, 4 + 4 * i)?;
+    Some((code, usize::from(offset)))
+}
+
+fn u16_at(bytes: &[u8], at: usize) -> Option<u16> {
+    match bytes.get(at..at + 2) {
+        Some(&[low, high]) => Some(u16::from_le_bytes([low, high])),
+        _ => None,
+    }
+}
+
+/// Rule 5: is the layout of the message right?
+pub fn layout_right(message: &[u8]) -> bool {
+    Values::read(message).is_some()
+}
+
+/// The value of an element in a message whose layout is right. None where
+/// the element is absent, or the layout wrong.
+pub fn value(message: &[u8], code: u16) -> Option<&[u8]> {
+    Values::read(message)?.get(code)
+}

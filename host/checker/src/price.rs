@@ -1,0 +1,65 @@
+//! The package price, code 17: rule 12, and how the tape line shows it.
+
+use crate::forms::{is_price, split_at_point, without_minus};
+
+/// Bytes of the price in the line.
+pub const PRICE_FIELD: usize = 20;
+
+/// Rule 12: a price with notation 3 has at most 11 digits, 10 after the point.
+pub fn price_too_long(v: &[u8]) -> bool {
+    let (before, after) = split_at_point(without_minus(v));
+    let after = after.map_or(0, <[u8]>::len);
+    before.len() + after > 11 || after > 10
+}
+
+/// The 20 bytes of the line's field and the length without padding. None
+/// where the bytes are not a price.
+pub fn shown_price(v: &[u8]) -> Option<([u8; PRICE_FIELD], usize)> {
+    is_price(v).then(|| shown(v))
+}
+
+/// The same for bytes already found to be a price. It has at most a minus,
+/// 18 digits and a point: 20 bytes.
+pub fn shown(v: &[u8]) -> ([u8; PRICE_FIELD], usize) {
+    let (before, after) = split_at_point(without_minus(v));
+    let before = without_leading_zeros(before);
+    let after = without_trailing_zeros(after.unwrap_or(&[]));
+    // "the minus of zero" is dropped
+    let is_zero = before.is_empty() && after.is_empty();
+
+    let mut field = [b' '; PRICE_FIELD];
+    let mut length = 0;
+    if v.starts_with(b"-") && !is_zero {
+        append(&mut field, &mut length, b"-");
+    }
+    // "one zero remains before a point"; so does the zero of a whole price
+    if before.is_empty() {
+        append(&mut field, &mut length, b"0");
+    }
+    append(&mut field, &mut length, before);
+    // "a bare point" is dropped
+    if !after.is_empty() {
+        append(&mut field, &mut length, b".");
+        append(&mut field, &mut length, after);
+    }
+    (field, length)
+}
+
+fn append(field: &mut [u8; PRICE_FIELD], length: &mut usize, part: &[u8]) {
+    for &b in part {
+        if let Some(place) = field.get_mut(*length) {
+            *place = b;
+            *length += 1;
+        }
+    }
+}
+
+fn without_leading_zeros(v: &[u8]) -> &[u8] {
+    let zeros = v.iter().take_while(|&&b| b == b'0').count();
+    &v[zeros..]
+}
+
+fn without_trailing_zeros(v: &[u8]) -> &[u8] {
+    let zeros = v.iter().rev().take_while(|&&b| b == b'0').count();
+    &v[..v.len() - zeros]
+}

@@ -1,0 +1,83 @@
+//! Section "The message" and rule 5.
+
+mod common;
+use checker::{layout_right, value};
+use common::*;
+
+fn with_header(entries: &[(u16, u16)], values: &[u8]) -> Vec<u8> {
+    let mut m = (entries.len() as u16).to_le_bytes().to_vec();
+    for (code, offset) in entries {
+        m.extend(code.to_le_bytes());
+        m.extend(offset.to_le_bytes());
+    }
+    m.extend(values);
+    m
+}
+
+#[test]
+fn right_layouts() {
+    assert!(layout_right(&[0, 0]));
+    assert_eq!(value(&[0, 0], 1), None);
+    let m = with_header(&[(1, 10), (25, 13)], b"abcd");
+    assert!(layout_right(&m));
+    assert_eq!(value(&m, 1), Some(&b"abc"[..]));
+    assert_eq!(value(&m, 25), Some(&b"d"[..]));
+    for code in [0, 2, 24, 26, u16::MAX] {
+        assert_eq!(value(&m, code), None);
+    }
+    let all: Elements = (1..=25).map(|code| (code, vec![b'x'])).collect();
+    assert!(layout_right(&laid_out(&all)));
+    assert_eq!(laid_out(&all).len(), 2 + 100 + 25);
+}
+
+#[test]
+fn a_value_is_a_part_of_the_message() {
+    let m = with_header(&[(3, 6)], b"TRAD");
+    let v = value(&m, 3).unwrap();
+    assert!(std::ptr::eq(v, &m[6..]));
+}
+
+#[test]
+fn wrong_layouts() {
+    for m in [
+        vec![],
+        vec![0],
+        vec![0, 0, 0],
+        vec![26, 0],
+        vec![0xFF; 200],
+        with_header(&[], b"a"),
+        with_header(&[(1, 6)], b""),    // offset not below the length
+        with_header(&[(0, 6)], b"a"),   // code 0
+        with_header(&[(26, 6)], b"a"),  // code 26
+        with_header(&[(1, 7)], b"abc"), // first offset too high
+        with_header(&[(1, 5)], b"abc"), // first offset too low
+        with_header(&[(1, 10), (1, 11)], b"ab"), // code again
+        with_header(&[(2, 10), (1, 11)], b"ab"), // code falls
+        with_header(&[(1, 10), (2, 10)], b"ab"), // offset again
+        with_header(&[(1, 10), (2, 9)], b"ab"), // offset falls
+        with_header(&[(1, 10), (2, 12)], b"ab"), // offset at the length
+        with_header(&[(1, 10), (2, 0xFFFF)], b"ab"),
+        with_header(&[(1, 10), (256 + 2, 11)], b"ab"),
+    ] {
+        assert!(!layout_right(&m), "{m:?}");
+        assert_eq!(value(&m, 1), None);
+        assert_eq!(Book::new(1).submit_bytes(&m), refused(5, 0));
+    }
+    // a header cut short
+    let m = laid_out(&newt());
+    for length in 0..=2 + 4 * newt().len() {
+        assert!(!layout_right(&m[..length]));
+    }
+    // 26 entries
+    let many: Elements = (1..=26).map(|code| (code, vec![b'x'])).collect();
+    assert!(!layout_right(&laid_out(&many)));
+}
+
+#[test]
+fn the_longest_message() {
+    let mut m = with_header(&[(1, 6)], &[b'a'; 2_042]);
+    assert_eq!(m.len(), 2_048);
+    assert!(layout_right(&m));
+    m.push(b'a');
+    assert!(!layout_right(&m));
+}

@@ -1,0 +1,599 @@
+//! Section "Verdict numbers, in checking order".
+
+mod common;
+use checker::{open, status, submit, Answer};
+use common::*;
+
+#[test]
+fn verdict_1_short_buffer() {
+    for length in [0, 1, 63, 64, 223] {
+        let mut ledger = vec![7; length];
+        assert_eq!(open(&mut ledger, &CAPS), 1);
+        // 1 comes before 2
+        assert_eq!(open(&mut ledger, &[0; 5]), 1);
+        assert_eq!(ledger, vec![7; length]);
+    }
+    assert_eq!(open(&mut [7; 224], &CAPS), 0);
+}
+
+#[test]
+fn verdict_2_caps() {
+    for bad in [0, 999, 1_001, 255_000_000, 1_000_000_000_000_001, u64::MAX] {
+        for i in 0..5 {
+            let mut caps = CAPS;
+            caps[i] = bad;
+            let mut ledger = [7; 300];
+            assert_eq!(open(&mut ledger, &caps), 2);
+            assert_eq!(ledger, [7; 300]);
+        }
+    }
+}
+
+#[test]
+fn opening_writes_the_header_alone() {
+    let caps = [
+        1_000,
+        11_000,
+        250_000_000,
+        150_000_000_000,
+        1_000_000_000_000_000,
+    ];
+    for (length, capacity) in [(224, 1), (383, 1), (384, 2), (64 + 160 * 400, 400)] {
+        let mut ledger = vec![0xEE; length];
+        assert_eq!(open(&mut ledger, &caps), 0);
+        let mut header = Vec::new();
+        header.extend(0u32.to_le_bytes());
+        header.extend(64u32.to_le_bytes());
+        header.extend(1u64.to_le_bytes());
+        for cap in caps {
+            header.extend(cap.to_le_bytes());
+        }
+        header.extend(160u32.to_le_bytes());
+        header.extend((capacity as u32).to_le_bytes());
+        assert_eq!(ledger[..64], header);
+        assert!(ledger[64..].iter().all(|&b| b == 0xEE));
+    }
+}
+
+#[test]
+fn capacity_is_at_most_100_000() {
+    for (rows, capacity) in [(99_999, 99_999), (100_000, 100_000), (100_001, 100_000)] {
+        let book = Book::new(rows);
+        assert_eq!(book.u32_at(60), capacity);
+        assert_eq!(status(&book.ledger, UTI.as_bytes()), Answer::default());
+    }
+}
+
+/// Submits and asks; both answer 3.
+fn breaks_the_ledger(mut book: Book) {
+    assert_eq!(book.submit(&newt()), refused(3, 0));
+    // 3 comes before 4 and 5
+    assert_eq!(submit(&mut book.ledger, &mut [], &[]), refused(3, 0));
+    assert_eq!(status(&book.ledger, UTI.as_bytes()), refused(3, 0));
+    // and before 9
+    assert_eq!(status(&book.ledger, b""), refused(3, 0));
+}
+
+#[test]
+fn verdict_3_ledger() {
+    let book = Book::new(3);
+    for length in [0, 4, 63, 64, 223] {
+        let mut short = book.clone();
+        short.ledger.truncate(length);
+        breaks_the_ledger(short);
+    }
+    for (at, bad) in [
+        (0, 4), // more rows than capacity
+        (0, u32::MAX),
+        (4, 0), // offset of the first row
+        (4, 65),
+        (4, u32::MAX),
+        (56, 159), // row size
+        (56, 0),
+        (60, 2), // capacity
+        (60, 4),
+        (60, u32::MAX),
+    ] {
+        let mut broken = book.clone();
+        broken.set_u32(at, bad);
+        breaks_the_ledger(broken);
+    }
+    for bad in [0, 1_000_000_000_001, u64::MAX] {
+        let mut broken = book.clone();
+        broken.set_u64(8, bad);
+        breaks_the_ledger(broken);
+    }
+    for i in 0..5 {
+        for bad in [0, 999, 250_000_001, u64::MAX] {
+            let mut broken = book.clone();
+            broken.set_u64(16 + 8 * i, bad);
+            breaks_the_ledger(broken);
+        }
+    }
+    // the capacity is that of the length
+    let mut longer = book.clone();
+    longer.ledger.extend([0; 160]);
+    breaks_the_ledger(longer);
+    // a length that leaves the capacity alone
+    let mut longer = book.clone();
+    longer.ledger.extend([0; 159]);
+    longer.accept(&newt());
+    // a full header of 0xFF
+    let mut broken = book;
+    broken.ledger[..64].fill(0xFF);
+    breaks_the_ledger(broken);
+}
+
+#[test]
+fn verdict_4_tape() {
+    let mut book = Book::new(3);
+    book.tape.truncate(145);
+    assert_eq!(book.submit(&newt()), refused(4, 0));
+    // 4 comes before 5
+    assert_eq!(book.submit_bytes(&[]), refused(4, 0));
+    book.tape.push(0);
+    book.accept(&newt());
+    // even for PRTO
+    book.tape.truncate(145);
+    assert_eq!(book.submit(&prto()), refused(4, 0));
+}
+
+#[test]
+fn verdict_5_layout() {
+    // See tests/layout.rs; 5 comes before 6.
+    assert_eq!(Book::new(1).submit_bytes(&[0, 0, 0]), refused(5, 0));
+    assert_eq!(Book::new(1).submit_bytes(&[]), refused(5, 0));
+}
+
+#[test]
+fn verdict_6_action() {
+    let mut book = Book::new(1);
+    assert_eq!(book.submit_bytes(&[0, 0]), refused(6, 2));
+    book.refuse(&without(newt(), 2), 6, 2);
+    for bad in ["term", "NEWt", "NEW", "NEWT ", "VALU", "MARU", "XXXX"] {
+        book.refuse(&with(newt(), 2, bad), 6, 2);
+    }
+    // 6 comes before 7
+    book.refuse(&without(with(newt(), 2, "XXXX"), 1), 6, 2);
+}
+
+#[test]
+fn verdict_7_needed() {
+    let mut book = Book::new(1);
+    let full_codes = [1, 4, 5, 6, 7, 8, 9, 10, 12, 13, 14, 15, 20, 21, 23, 24, 25];
+    for (action, event) in [
+        ("NEWT", Some("TRAD")),
+        ("MODI", Some("TRAD")),
+        ("CORR", None),
+        ("REVI", None),
+    ] {
+        for code in full_codes {
+            // with a form broken lower down: 7 comes before 9
+            let m = with(without(full(action, event), code), 3, "bad");
+            book.refuse(&m, 7, code as u8);
+            // the lowest one is named
+            if code != 25 {
+                book.refuse(&without(m, 25), 7, code as u8);
+            }
+        }
+    }
+    for (action, event) in [
+        ("TERM", Some("ETRM")),
+        ("EROR", None),
+        ("PRTO", Some("PTNG")),
+    ] {
+        for code in [1, 4, 5] {
+            // 7 comes before 8
+            let m = with(without(short(action, event), code), 6, EXECUTED);
+            book.refuse(&m, 7, code as u8);
+        }
+    }
+    // The event is not needed by all, nor is a conditional or optional element.
+    book.refuse(&without(newt(), 3), 10, 0);
+    book.accept(&newt());
+}
+
+#[test]
+fn verdict_8_above_5() {
+    let mut book = Book::new(1);
+    book.accept(&newt());
+    let all = with(with_package(full("TERM", Some("ETRM")), "1", "1"), 22, "US");
+    let all = with(all, 11, "True");
+    assert_eq!(all.len(), 25);
+    for (action, event) in [
+        ("TERM", Some("ETRM")),
+        ("EROR", None),
+        ("PRTO", Some("PTNG")),
+    ] {
+        for code in 6..=25 {
+            let mut m = short(action, event);
+            m.insert(code, all[&code].clone());
+            book.refuse(&m, 8, code as u8);
+            // 8 comes before 9: a value of any form, and another fault in 4
+            m.insert(code, b"?".to_vec());
+            book.refuse(&with(m.clone(), 4, "?"), 8, code as u8);
+            // the lowest one is named
+            m.insert(25, b"IR".to_vec());
+            book.refuse(&m, 8, code as u8);
+        }
+    }
+}
+
+#[test]
+fn verdict_9_forms() {
+    let mut book = Book::new(1);
+    // every element but the action, whose form is 6
+    let whole = with(
+        with(with_package(newt(), "1.5", "1"), 22, "US"),
+        11,
+        "false",
+    );
+    for (code, bad) in [
+        (1, "5493001KJTIIGC8Y1R12"),
+        (1, "5493001KJTIIGC8Y1R12swap"),
+        (3, "trad"),
+        (3, "TRA"),
+        (3, "TRADE"),
+        (3, "TRA1"),
+        (4, "2024-03-02"),
+        (5, "2024-03-02T09:00:60Z"),
+        (6, "2024-02-30T09:00:00Z"),
+        (7, "2023-02-29"),
+        (8, "2029-3-1"),
+        (9, "2029-03-05T00:00:00Z"),
+        (10, "y"),
+        (10, "YN"),
+        (11, "TRUE"),
+        (11, "T"),
+        (12, "0"),
+        (13, "fALSE"),
+        (14, "unal"),
+        (15, "True "),
+        (16, "A-1"),
+        (17, "1.12345678901234"),
+        (17, "+1"),
+        (18, "2"),
+        (18, "01"),
+        (19, "usd"),
+        (19, "EURO"),
+        (20, "-1"),
+        (20, "1.000000"),
+        (20, "12345678901234567890123456"),
+        (21, "US"),
+        (21, "US1"),
+        (22, "us"),
+        (22, "USA"),
+        (23, "5493001KJTIIGC8Y1R13"),
+        (24, "529900T8BM49AURSDO56"),
+        (25, "ir"),
+        (25, "XX"),
+    ] {
+        book.refuse(&with(whole.clone(), code, bad), 9, code as u8);
+        // the lowest one is named
+        if code < 25 {
+            book.refuse(
+                &with(with(whole.clone(), 25, "?"), code, bad),
+                9,
+                code as u8,
+            );
+        }
+    }
+    // 100 letters or digits of either case, not 101
+    book.refuse(&with(whole.clone(), 16, &"aZ9".repeat(34)[..101]), 9, 16);
+    // the codes of an action that is not full
+    for (code, bad) in [(1, "x"), (3, "etrm"), (4, "x"), (5, "x")] {
+        book.refuse(&with(term(), code, bad), 9, code as u8);
+    }
+    // an element whose "if" is not met is read for its form
+    for (code, bad) in [(11, "x"), (16, "-"), (17, "x"), (18, "x"), (19, "x")] {
+        book.refuse(&with(newt(), code, bad), 9, code as u8);
+    }
+    // 9 comes before 10
+    book.refuse(&with(with(newt(), 3, "ETRM"), 25, "xx"), 9, 25);
+    book.accept(&with(whole, 16, &"aZ9".repeat(34)[..100]));
+}
+
+#[test]
+fn verdict_10_pair() {
+    let mut book = Book::new(1);
+    book.refuse(&full("NEWT", Some("ETRM")), 10, 0);
+    book.refuse(&full("NEWT", None), 10, 0);
+    book.refuse(&full("CORR", Some("TRAD")), 10, 0);
+    book.refuse(&full("REVI", Some("TRAD")), 10, 0);
+    book.refuse(&short("EROR", Some("ETRM")), 10, 0);
+    book.refuse(&short("TERM", None), 10, 0);
+    book.refuse(&short("TERM", Some("TRAD")), 10, 0);
+    book.refuse(&short("PRTO", None), 10, 0);
+    book.refuse(&full("NEWT", Some("ABCD")), 10, 0);
+    // 10 comes before 11
+    book.refuse(&with(full("NEWT", None), 10, "N"), 10, 0);
+}
+
+#[test]
+fn verdict_11_conditional() {
+    let mut book = Book::new(9);
+    // 11 if Cleared is N
+    let not_cleared = with(newt(), 10, "N");
+    book.refuse(&not_cleared, 11, 11);
+    // 16, 17 and 18 if 15 is true, 19 if 18 is 1 too
+    for truth in ["True", "true"] {
+        let package = with(with_package(newt(), "1.5", "1"), 15, truth);
+        for code in [16, 17, 18, 19] {
+            book.refuse(&without(package.clone(), code), 11, code as u8);
+        }
+        // the lowest one is named
+        book.refuse(&with(newt(), 15, truth), 11, 16);
+        book.refuse(&without(without(package.clone(), 17), 18), 11, 17);
+        book.refuse(&without(without(package.clone(), 18), 19), 11, 18);
+        book.refuse(&with(without(package.clone(), 16), 10, "N"), 11, 11);
+    }
+    // 11 comes before 12 and 13
+    let long = with_package(newt(), "123456789012", "3");
+    book.refuse(&without(long, 16), 11, 16);
+    book.refuse(&with(not_cleared.clone(), 8, "2000-01-01"), 11, 11);
+    // not asked where the condition is not met
+    book.accept(&with(not_cleared, 11, "True"));
+    let other = |n: u8, m: Elements| with(m, 1, &format!("{UTI}{n}"));
+    book.accept(&other(1, with(newt(), 10, "Y")));
+    book.accept(&other(2, with(newt(), 15, "False")));
+    book.accept(&other(3, with_package(newt(), "1.5", "3")));
+}
+
+#[test]
+fn verdict_12_price() {
+    let mut book = Book::new(9);
+    for bad in ["123456789012", "0.01234567890", "-12.0123456789"] {
+        book.refuse(&with_package(newt(), bad, "3"), 12, 0);
+    }
+    // 12 comes before 13
+    let m = with_package(newt(), "123456789012", "3");
+    book.refuse(&with(m.clone(), 8, "2000-01-01"), 12, 0);
+    let other = |n: u8, m: Elements| with(m, 1, &format!("{UTI}{n}"));
+    book.accept(&other(1, with_package(newt(), "123456789012", "1")));
+    book.accept(&other(2, with_package(newt(), "-1.0123456789", "3")));
+    // no package, no such test
+    book.accept(&other(3, with(m, 15, "False")));
+}
+
+#[test]
+fn verdict_13_order() {
+    let mut book = Book::new(9);
+    book.refuse(&with(newt(), 8, "2024-02-29"), 13, 0); // expiration before effective
+    book.refuse(&with(newt(), 9, "2029-02-28"), 13, 0); // settlement before expiration
+    book.refuse(&with(newt(), 5, "2024-02-29T10:15:29Z"), 13, 0); // reporting before execution
+                                                                  // equal is not before
+    let mut m = newt();
+    for code in [7, 8, 9] {
+        set(&mut m, code, "2024-03-01");
+    }
+    set(&mut m, 5, EXECUTED);
+    book.accept(&m);
+    // 13 comes before 14 and 15
+    book.refuse(&with(newt(), 8, "2024-02-29"), 13, 0);
+    book.row_mut(0)[0] = 9;
+    book.refuse(&with(newt(), 8, "2024-02-29"), 13, 0);
+    book.row_mut(0)[0] = 1;
+    // an earlier reporting time is nothing to TERM
+    book.accept(&with(term(), 5, "1900-01-01T00:00:00Z"));
+}
+
+#[test]
+fn verdict_14_row() {
+    let mut book = Book::new(3);
+    book.accept(&newt());
+    book.accept(&modi());
+    assert_eq!(book.u64_at(8), 3);
+    let messages = [
+        newt(),
+        modi(),
+        full("CORR", None),
+        full("REVI", None),
+        term(),
+        prto(),
+    ];
+    let asks_14 = |book: &mut Book| {
+        for m in &messages {
+            // 14 comes before 15 and 16
+            book.refuse(m, 14, 0);
+        }
+        assert_eq!(status(&book.ledger, UTI.as_bytes()), refused(14, 0));
+    };
+    for bad in [0, 5, 255] {
+        let mut broken = book.clone();
+        broken.row_mut(0)[0] = bad;
+        asks_14(&mut broken);
+    }
+    for bad in [0, 3, 4, u64::MAX] {
+        let mut broken = book.clone();
+        broken.set_u64(64 + 54, bad);
+        asks_14(&mut broken);
+    }
+    for good in [1, 2] {
+        let mut other = book.clone();
+        other.set_u64(64 + 54, good);
+        let answer = status(&other.ledger, UTI.as_bytes());
+        assert_eq!(
+            (answer.verdict, answer.status, answer.identifier),
+            (0, 1, good)
+        );
+    }
+    // with next identifier 1 no identifier is right
+    book.set_u64(8, 1);
+    asks_14(&mut book);
+    // another swap's row does not matter
+    book.accept(&with(newt(), 1, "ANOTHERSWAP0000000000001"));
+}
+
+#[test]
+fn verdict_15_status() {
+    let actions: [(&str, Elements); 7] = [
+        ("NEWT", newt()),
+        ("MODI", modi()),
+        ("CORR", full("CORR", None)),
+        ("TERM", term()),
+        ("EROR", short("EROR", None)),
+        ("REVI", full("REVI", None)),
+        ("PRTO", prto()),
+    ];
+    // the status after each action, or 15, from unknown, live, closed, errored, ported
+    let steps: [[u8; 5]; 7] = [
+        [1, 15, 15, 15, 15],
+        [15, 1, 15, 15, 15],
+        [15, 1, 2, 15, 15],
+        [15, 2, 15, 15, 15],
+        [15, 3, 3, 15, 15],
+        [15, 15, 1, 1, 15],
+        [15, 4, 15, 15, 15],
+    ];
+    for ((action, m), row) in actions.iter().zip(steps) {
+        for (before, after) in row.into_iter().enumerate() {
+            let mut book = Book::new(3);
+            if before > 0 {
+                book.accept(&newt());
+                book.row_mut(0)[0] = before as u8;
+            }
+            let answer = book.submit(m);
+            if after == 15 {
+                assert_eq!(answer, refused(15, 0), "{action} from {before}");
+            } else {
+                assert_eq!(answer.verdict, 0, "{action} from {before}");
+                assert_eq!(book.row(0)[0], after, "{action} from {before}");
+                assert_eq!(status(&book.ledger, UTI.as_bytes()).status, after);
+            }
+        }
+    }
+}
+
+#[test]
+fn verdict_16_execution_time() {
+    let mut book = Book::new(1);
+    book.accept(&newt());
+    let other = "2024-02-29T10:15:31Z";
+    book.refuse(&with(modi(), 6, other), 16, 0);
+    // 15 comes before 16
+    book.refuse(&with(full("REVI", None), 6, other), 15, 0);
+    // CORR may mend it, then MODI and REVI repeat the new one
+    book.accept(&with(full("CORR", None), 6, other));
+    book.refuse(&modi(), 16, 0);
+    book.accept(&with(modi(), 6, other));
+    book.accept(&term());
+    book.refuse(&full("REVI", None), 16, 0);
+    book.accept(&with(full("REVI", None), 6, other));
+}
+
+#[test]
+fn verdict_17_capacity() {
+    let mut book = Book::new(2);
+    let swap = |n: u8| with(newt(), 1, &format!("{UTI}{n}"));
+    book.accept(&swap(1));
+    book.accept(&swap(2));
+    book.refuse(&swap(3), 17, 0);
+    // 15 comes before 17, and 17 before 18
+    book.refuse(&swap(2), 15, 0);
+    book.set_u64(8, 1_000_000_000_000);
+    book.refuse(&swap(3), 17, 0);
+    // only NEWT asks for a row
+    book.set_u64(8, 3);
+    book.accept(&with(modi(), 1, &format!("{UTI}1")));
+    // rows in use can be equal to capacity
+    assert_eq!(status(&book.ledger, format!("{UTI}2").as_bytes()).status, 1);
+}
+
+#[test]
+fn verdict_18_identifiers() {
+    let mut book = Book::new(2);
+    book.accept(&newt());
+    book.set_u64(8, 999_999_999_999);
+    assert_eq!(book.accept(&modi()), 999_999_999_999);
+    assert_eq!(&book.line()[..24], "999999999999000000000001");
+    assert_eq!(book.u64_at(8), 1_000_000_000_000);
+    for m in [
+        modi(),
+        full("CORR", None),
+        term(),
+        short("EROR", None),
+        with(newt(), 1, "ANOTHERSWAP0000000000001"),
+    ] {
+        book.refuse(&m, 18, 0);
+    }
+    // 16 comes before 18
+    book.refuse(&with(modi(), 6, "2024-02-29T10:15:31Z"), 16, 0);
+    // PRTO writes no line
+    assert_eq!(book.accept(&prto()), 0);
+}
+
+#[test]
+fn status_question() {
+    let mut book = Book::new(2);
+    let ask = |book: &Book| status(&book.ledger, UTI.as_bytes());
+    for bad in ["", "ABC", &"A".repeat(20), &"A".repeat(53), &"a".repeat(30)] {
+        assert_eq!(status(&book.ledger, bad.as_bytes()), refused(9, 1));
+    }
+    assert_eq!(ask(&book), Answer::default());
+    book.accept(&newt());
+    let of = |status, identifier| Answer {
+        status,
+        identifier,
+        ..Answer::default()
+    };
+    assert_eq!(ask(&book), of(1, 1));
+    book.accept(&modi());
+    assert_eq!(ask(&book), of(1, 2));
+    book.accept(&term());
+    assert_eq!(ask(&book), of(2, 3));
+    book.accept(&short("EROR", None));
+    assert_eq!(ask(&book), of(3, 4));
+    book.accept(&full("REVI", None));
+    assert_eq!(ask(&book), of(1, 5));
+    book.accept(&prto());
+    assert_eq!(ask(&book), of(4, 5));
+}
+
+/// Section "Misreadings we have met".
+mod misreadings {
+    use super::*;
+
+    #[test]
+    fn the_exact_amount_is_compared_with_the_cap() {
+        let mut book = Book::new(1);
+        book.accept(&with(newt(), 20, "250400000"));
+        assert_eq!(&book.line()[123..140], "0000000250000000+");
+        book.accept(&with(modi(), 20, "250000000"));
+        assert_eq!(&book.line()[123..140], "0000000250000000 ");
+    }
+
+    #[test]
+    fn the_notional_has_25_digits() {
+        let mut book = Book::new(1);
+        // 2 to the 64th and 1,000
+        book.accept(&with(newt(), 20, "18446744073709552616"));
+        assert_eq!(&book.line()[123..140], "0000000250000000+");
+        book.accept(&with(modi(), 20, "9999999999999999999999999"));
+        assert_eq!(&book.line()[123..140], "0000000250000000+");
+    }
+
+    #[test]
+    fn newt_does_not_bring_back_an_errored_swap() {
+        let mut book = Book::new(2);
+        book.accept(&newt());
+        book.accept(&short("EROR", None));
+        book.refuse(&newt(), 15, 0);
+        book.accept(&full("REVI", None));
+    }
+
+    #[test]
+    fn the_form_is_checked_before_the_status() {
+        let mut book = Book::new(1);
+        book.refuse(&with(modi(), 20, "x"), 9, 20);
+        book.refuse(&modi(), 15, 0);
+    }
+
+    #[test]
+    fn no_row_is_written_where_identifiers_are_spent() {
+        let mut book = Book::new(1);
+        book.set_u64(8, 1_000_000_000_000);
+        // Book::submit sees that no byte changes.
+        book.refuse(&newt(), 18, 0);
+        assert_eq!(book.u32_at(0), 0);
+    }
+}
