@@ -1,6 +1,6 @@
 //! Links the core's archive, which `rt staticlib repository` makes.
 
-use std::path::{Path, PathBuf};
+use std::path::Path;
 use std::process::exit;
 
 /// Where `rt staticlib` puts its archives, seen from this package.
@@ -19,7 +19,7 @@ fn main() {
     println!("cargo:rustc-link-lib=static=repository");
 }
 
-fn missing(archive: &PathBuf) -> ! {
+fn missing(archive: &Path) -> ! {
     eprintln!("the core's archive is missing: {}", archive.display());
     eprintln!("make it with `rt staticlib repository` at the top of the repository");
     exit(1)

@@ -144,7 +144,7 @@ fn next_action(random: &mut Random, status: u8) -> &'static str {
         .filter(|action| matrix::step(action, status).is_some())
         .collect();
     if admitted.is_empty() || random.once_in(6) {
-        return *random.pick(&ACTIONS);
+        return ACTIONS[random.below(ACTIONS.len())];
     }
     // Few swaps are ported, since nothing follows.
     match *random.pick(&admitted) {

@@ -332,6 +332,7 @@ impl Case {
     }
 
     fn damage(&mut self, random: &mut Random, damage: Damage) {
+        let right = layout::capacity(self.ledger_length) as u32;
         let header = &mut self.header;
         match damage {
             Damage::Short => self.ledger_length = random.below(224),
@@ -345,8 +346,8 @@ impl Case {
             Damage::RowSize => {
                 header.row_size = *random.pick(&[0, 159, 161, 160 << 8, 160 | 1 << 31])
             }
-            Damage::CapacityLow => header.capacity -= 1,
-            Damage::CapacityHigh => header.capacity += 1,
+            Damage::CapacityLow => header.capacity = right.max(1) - 1,
+            Damage::CapacityHigh => header.capacity = right + 1,
         }
     }
 
@@ -522,9 +523,9 @@ const LONG_PRICES: [&str; 8] = [
 /// The next identifier of a ledger that has been in use.
 fn next_identifier(random: &mut Random) -> u64 {
     match random.below(4) {
-        0 => 2 + random.next() % 300,
+        0 => 2 + random.bits() % 300,
         1 => HIGHEST_NEXT - 1,
-        _ => 2 + random.next() % (HIGHEST_NEXT - 3),
+        _ => 2 + random.bits() % (HIGHEST_NEXT - 3),
     }
 }
 
@@ -534,7 +535,7 @@ fn any_row(random: &mut Random, uti: &[u8], header: &Header) -> Row {
     let identifier = match random.below(3) {
         0 => 1,
         1 => header.next - 1,
-        _ => 1 + random.next() % (header.next - 1),
+        _ => 1 + random.bits() % (header.next - 1),
     };
     let mut row = Row::new(uti, identifier, terms);
     row.status = random.between(1, 4) as u8;

@@ -14,7 +14,7 @@ pub fn flip(random: &mut Random, bytes: &mut [u8]) {
             0 => bytes[at] ^ (1 << random.below(8)),
             1 => bytes[at].wrapping_add(1),
             2 => bytes[at].wrapping_sub(1),
-            _ => random.next() as u8,
+            _ => random.bits() as u8,
         };
     }
 }
@@ -58,7 +58,7 @@ fn rise(random: &mut Random, highest: usize) -> usize {
 /// An offset, seldom another number instead.
 fn wild(random: &mut Random, offset: usize) -> usize {
     match random.below(60) {
-        0 => random.next() as usize % 65_536,
+        0 => random.bits() as usize % 65_536,
         1 => offset + 1,
         2 => offset - 1,
         _ => offset,

@@ -49,7 +49,7 @@ impl Mix {
 
     /// Makes one submission and asks one status.
     pub fn step(&mut self) -> Result<(), Mismatch> {
-        if self.steps % LIFE == 0 {
+        if self.steps.is_multiple_of(LIFE) {
             self.open()?;
         }
         self.steps += 1;
@@ -85,7 +85,7 @@ impl Mix {
         let line = due
             .line
             .as_ref()
-            .map_or(true, |line| self.long.tape().starts_with(line));
+            .is_none_or(|line| self.long.tape().starts_with(line));
         if !same || !line {
             return Err(Mismatch::new(
                 &message.encode(),

@@ -116,7 +116,7 @@ fn date_between(random: &mut Random, first: usize, last: usize) -> Vec<u8> {
 }
 
 fn days_in(year: usize, month: usize) -> usize {
-    let leap = (year % 4 == 0 && year % 100 != 0) || year % 400 == 0;
+    let leap = (year.is_multiple_of(4) && !year.is_multiple_of(100)) || year.is_multiple_of(400);
     match month {
         2 if leap => 29,
         2 => 28,
@@ -237,7 +237,7 @@ pub fn amount_masked_alike(random: &mut Random, amount: &[u8], cap: u64) -> Vec<
 /// An amount near to what a line shows.
 fn beside(random: &mut Random, shown: (u64, bool)) -> Vec<u8> {
     let (number, plus) = shown;
-    let distance = random.next() % (1 + number / 8);
+    let distance = random.bits() % (1 + number / 8);
     let other = if plus || random.once_in(2) {
         number + distance
     } else {
@@ -278,7 +278,7 @@ pub fn price(random: &mut Random, most: usize, most_after: usize) -> Vec<u8> {
 /// rounded amount.
 pub fn cap(random: &mut Random) -> u64 {
     let digits = random.between(4, 15) as u32;
-    let number = 10u64.pow(digits - 1) + random.next() % (9 * 10u64.pow(digits - 1));
+    let number = 10u64.pow(digits - 1) + random.bits() % (9 * 10u64.pow(digits - 1));
     let rounded = rounded(u128::from(number) * 100_000);
     u64::try_from(rounded).expect("a number of at most 16 digits")
 }

@@ -124,8 +124,11 @@ fn digits_of_an_amount() {
     }
 }
 
+/// Verdict and element.
+type Due = (u8, u8);
+
 /// Prices, what is due under notation 1 and under notation 3.
-const PRICES: [(&str, (u8, u8), (u8, u8)); 16] = [
+const PRICES: [(&str, Due, Due); 16] = [
     ("123456789012345678", (0, 0), (12, 0)),
     ("-123456789012345678", (0, 0), (12, 0)),
     ("1234567890123456789", (9, 17), (9, 17)),

@@ -6,9 +6,11 @@ use compare::faults::{self, Case, Fault, CONDITIONAL, NEEDED_BY_ALL, NEEDED_BY_F
 use compare::layout::length_for;
 use compare::malformed;
 use compare::matrix::{is_full, ACTIONS};
+use compare::message::described;
 use compare::random::Random;
 use compare::tally::Tally;
 use compare::{submissions, values};
+use std::ops::RangeInclusive;
 
 /// Submits the case with the faults and holds both judges to what is due.
 fn try_faults(compared: &mut Compared, random: &mut Random, action: &str, faults: &[Fault]) {
@@ -20,13 +22,10 @@ fn try_faults(compared: &mut Compared, random: &mut Random, action: &str, faults
 fn submit(compared: &mut Compared, case: &Case, due: (u8, u8), text: &str) {
     compared.set_ledger(&case.ledger());
     compared.set_tape(&case.tape());
-    let answer = compared.submit(&case.message());
-    assert_eq!(
-        (answer.verdict, answer.element),
-        due,
-        "{text}\n{:?}",
-        case.message
-    );
+    let message = case.message();
+    let answer = compared.submit(&message);
+    let text = format!("{text}\n{}", described(&message));
+    assert_eq!((answer.verdict, answer.element), due, "{text}");
     let line_due = due.0 == 0 && case.message.value(2) != b"PRTO";
     let identifier = if line_due { case.header.next } else { 0 };
     assert_eq!(answer.identifier, identifier, "{text}");
@@ -65,7 +64,7 @@ fn one_rule_broken() {
         }
     }
     println!("one rule: seed {seed}, {}", compared.tally);
-    every_submission_verdict_was_met(&compared.tally, 3);
+    every_verdict_was_met(&compared.tally, 3..=18);
     every_element_was_met(&compared.tally);
 }
 
@@ -83,7 +82,8 @@ fn two_rules_broken() {
         }
     }
     println!("two rules: seed {seed}, {}", compared.tally);
-    every_submission_verdict_was_met(&compared.tally, 3);
+    // 18 is the last rule: it is never the lower of two.
+    every_verdict_was_met(&compared.tally, 3..=17);
     every_element_was_met(&compared.tally);
 }
 
@@ -153,8 +153,8 @@ fn opening_refuses_1_before_2() {
     assert!((0..=2).all(|verdict| compared.tally.verdict(verdict) > 0));
 }
 
-fn every_submission_verdict_was_met(tally: &Tally, lowest: u8) {
-    for verdict in lowest..=18 {
+fn every_verdict_was_met(tally: &Tally, verdicts: RangeInclusive<u8>) {
+    for verdict in verdicts {
         assert!(tally.verdict(verdict) > 0, "verdict {verdict}");
     }
 }

@@ -35,7 +35,7 @@ fn noise_ledger(random: &mut Random) -> Vec<u8> {
     let mut ledger = random.bytes(length);
     let mut header = Header::opened(length, values::caps(random));
     header.rows = random.below(header.capacity as usize + 1) as u32;
-    header.next = 1 + random.next() % 1_000_000_000_000;
+    header.next = 1 + random.bits() % 1_000_000_000_000;
     ledger[..64].copy_from_slice(&header.encode());
     ledger
 }

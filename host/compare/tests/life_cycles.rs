@@ -5,6 +5,7 @@ use compare::compared::Compared;
 use compare::cycles::{next_message, Model};
 use compare::layout::{self, LARGEST_CAPACITY, LINE_SIZE};
 use compare::matrix::{self, ACTIONS};
+use compare::message::{described, Message};
 use compare::random::Random;
 use compare::tally::Tally;
 use compare::{submissions, values};
@@ -64,8 +65,9 @@ impl Book {
         self.compared.set_tape(&tape);
         let answer = self.compared.submit(&message.encode());
         let due = self.model.submit(&message, tape.len());
-        assert_eq!(answer.verdict, due.verdict, "{message:?}");
-        assert_eq!(answer.identifier, due.identifier, "{message:?}");
+        let text = described(&message.encode());
+        assert_eq!(answer.verdict, due.verdict, "{text}");
+        assert_eq!(answer.identifier, due.identifier, "{text}");
         assert_eq!((answer.status, answer.element), (0, 0));
         match due.line {
             Some(line) => assert_eq!(self.compared.tape()[..LINE_SIZE], line),
@@ -106,7 +108,7 @@ impl Book {
 }
 
 impl Met {
-    fn note(&mut self, message: &compare::message::Message, status: u8, verdict: u8) {
+    fn note(&mut self, message: &Message, status: u8, verdict: u8) {
         let text = |code: u8| String::from_utf8_lossy(message.value(code)).into_owned();
         if verdict == 0 {
             self.pairs.insert((text(2), text(3)));
