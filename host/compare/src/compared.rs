@@ -2,8 +2,8 @@
 
 use crate::guarded::Guarded;
 use crate::judge::{Judge, BOTH};
-use crate::layout::{place, LINE_SIZE};
-use crate::message::{described, readable};
+use crate::layout::{self, LINE_SIZE};
+use crate::message::described;
 use crate::tally::Tally;
 use sdr::Answer;
 use std::fmt;
@@ -135,12 +135,9 @@ impl Compared {
         let call = |side: &mut Side| side.judge.status(side.ledger.bytes(), side.input.bytes());
         let answer = self.call(uti, call)?;
         self.tally.question();
-        self.must(
-            self.is_unchanged(),
-            "a status question wrote",
-            uti,
-            &[answer],
-        )?;
+        if !self.is_unchanged() {
+            return Err(self.mismatch("a status question wrote", uti, &[answer]));
+        }
         Ok(answer)
     }
 
@@ -152,10 +149,14 @@ impl Compared {
             side.input.set(input);
             answers.push(call(side));
         }
-        self.check_lent(input, &answers)?;
-        self.check_equal(input, &answers)?;
-        self.check_refusal(input, &answers)?;
-        Ok(answers[0])
+        let fault = self
+            .wrong_write(input)
+            .or_else(|| self.difference(&answers))
+            .or_else(|| self.wrong_refusal(answers[0]).map(str::to_string));
+        match fault {
+            Some(fault) => Err(self.mismatch(&fault, input, &answers)),
+            None => Ok(answers[0]),
+        }
     }
 
     /// Keeps what the buffers hold before a call.
@@ -171,100 +172,79 @@ impl Compared {
         self.ledger_before == self.ledger() && self.tape_before == self.tape()
     }
 
-    /// The guards are whole, the message and the rest of the tape buffer are
-    /// as they were.
-    fn check_lent(&self, input: &[u8], answers: &[Answer]) -> Result<(), Mismatch> {
-        for side in &self.sides {
-            let whole = [&side.ledger, &side.tape, &side.input]
-                .iter()
-                .all(|guarded| guarded.is_whole());
-            let name = side.judge.name();
-            self.must(
-                whole,
-                &format!("{name}: guard bytes changed"),
-                input,
-                answers,
-            )?;
-            let kept = side.input.bytes() == input;
-            self.must(
-                kept,
-                &format!("{name}: the message changed"),
-                input,
-                answers,
-            )?;
-            let rest = self.tape_before.iter().zip(side.tape.bytes());
-            let stays = rest.skip(LINE_SIZE).all(|(before, after)| before == after);
-            self.must(
-                stays,
-                &format!("{name}: wrote behind the line"),
-                input,
-                answers,
-            )?;
-        }
-        Ok(())
+    /// A side wrote beside its buffers, into the message or behind the line.
+    fn wrong_write(&self, input: &[u8]) -> Option<String> {
+        let mut faults = self.sides.iter().filter_map(|side| {
+            let fault = side.wrong_write(input, &self.tape_before)?;
+            Some(format!("{}: {fault}", side.judge.name()))
+        });
+        faults.next()
     }
 
-    /// All sides answered the same and left the same bytes.
-    fn check_equal(&self, input: &[u8], answers: &[Answer]) -> Result<(), Mismatch> {
+    /// Two sides answered differently or left different bytes.
+    fn difference(&self, answers: &[Answer]) -> Option<String> {
         let first = &self.sides[0];
         for (side, answer) in self.sides.iter().zip(answers).skip(1) {
-            self.must(*answer == answers[0], "the answers differ", input, answers)?;
-            let ledger = difference(first.ledger.bytes(), side.ledger.bytes());
-            let text = || format!("the ledgers differ: {}", ledger_difference(&ledger));
-            self.must_with(ledger.is_none(), text, input, answers)?;
-            let tape = difference(first.tape.bytes(), side.tape.bytes());
-            let text = || format!("the tape buffers differ: {tape:?}");
-            self.must_with(tape.is_none(), text, input, answers)?;
+            if *answer != answers[0] {
+                return Some("the answers differ".to_string());
+            }
+            if let Some((at, a, b)) = difference(first.ledger.bytes(), side.ledger.bytes()) {
+                let place = layout::place(at);
+                return Some(format!(
+                    "the ledgers differ: byte {at} ({place}) is {a} and {b}"
+                ));
+            }
+            if let Some((at, a, b)) = difference(first.tape.bytes(), side.tape.bytes()) {
+                return Some(format!("the tape buffers differ: byte {at} is {a} and {b}"));
+            }
         }
-        Ok(())
+        None
     }
 
-    /// A refusal changes nothing, answers no identifier and no status, and
-    /// names an element only under 6, 7, 8, 9 and 11.
-    fn check_refusal(&self, input: &[u8], answers: &[Answer]) -> Result<(), Mismatch> {
-        let answer = answers[0];
+    /// A refusal changes nothing, answers no identifier and no status; an
+    /// element is named only under 6, 7, 8, 9 and 11.
+    fn wrong_refusal(&self, answer: Answer) -> Option<&'static str> {
         let names = matches!(answer.verdict, 6 | 7 | 8 | 9 | 11);
-        let named = (answer.element != 0) == names;
-        self.must(named, "an element is named wrongly", input, answers)?;
+        if (answer.element != 0) != names {
+            return Some("an element is named wrongly");
+        }
         if answer.verdict == 0 {
-            return Ok(());
+            return None;
         }
-        self.must(self.is_unchanged(), "a refusal wrote", input, answers)?;
-        let silent = answer.identifier == 0 && answer.status == 0;
-        self.must(silent, "a refusal says more than it may", input, answers)
+        if answer.identifier != 0 || answer.status != 0 {
+            return Some("a refusal answers a status or an identifier");
+        }
+        (!self.is_unchanged()).then_some("a refusal wrote")
     }
 
-    fn must(
-        &self,
-        holds: bool,
-        fault: &str,
-        input: &[u8],
-        answers: &[Answer],
-    ) -> Result<(), Mismatch> {
-        self.must_with(holds, || fault.to_string(), input, answers)
-    }
-
-    fn must_with(
-        &self,
-        holds: bool,
-        fault: impl Fn() -> String,
-        input: &[u8],
-        answers: &[Answer],
-    ) -> Result<(), Mismatch> {
-        if holds {
-            return Ok(());
-        }
-        let mut text = format!("{}\n{}", fault(), described(input));
+    /// Tells a fault with all that was lent and answered.
+    fn mismatch(&self, fault: &str, input: &[u8], answers: &[Answer]) -> Mismatch {
+        let mut text = format!("{fault}\n{}", described(input));
         for (side, answer) in self.sides.iter().zip(answers) {
             text += &format!("{:8} {answer:?}\n", side.judge.name());
         }
         text += &format!(
-            "ledger of {} bytes, header before {}\ntape buffer of {} bytes\n",
-            self.ledger_before.len(),
-            readable(&self.ledger_before[..self.ledger_before.len().min(64)]),
-            self.tape_before.len()
+            "ledger before: {}\n",
+            layout::described(&self.ledger_before)
         );
-        Err(Mismatch(text))
+        text += &format!("tape buffer of {} bytes\n", self.tape_before.len());
+        Mismatch(text)
+    }
+}
+
+impl Side {
+    /// What the side wrote where it must not.
+    fn wrong_write(&self, input: &[u8], tape_before: &[u8]) -> Option<&'static str> {
+        let lent = [&self.ledger, &self.tape, &self.input];
+        if !lent.iter().all(|guarded| guarded.is_whole()) {
+            return Some("guard bytes changed");
+        }
+        if self.input.bytes() != input {
+            return Some("the message changed");
+        }
+        let behind = tape_before.iter().zip(self.tape.bytes()).skip(LINE_SIZE);
+        let stays = behind.into_iter().all(|(before, after)| before == after);
+        (!stays).then_some("bytes behind the line changed")
     }
 }
 
@@ -273,20 +253,11 @@ fn agreed(result: Agreed) -> Answer {
 }
 
 /// The first place where two buffers differ, with both bytes.
-type Difference = Option<(usize, u8, u8)>;
-
-fn difference(first: &[u8], second: &[u8]) -> Difference {
+fn difference(first: &[u8], second: &[u8]) -> Option<(usize, u8, u8)> {
     if first == second {
         return None;
     }
     let pairs = first.iter().zip(second).enumerate();
     let mut differing = pairs.filter(|(_, (a, b))| a != b);
     differing.next().map(|(at, (a, b))| (at, *a, *b))
-}
-
-fn ledger_difference(difference: &Difference) -> String {
-    match difference {
-        Some((at, a, b)) => format!("byte {at} ({}) is {a} and {b}", place(*at)),
-        None => String::new(),
-    }
 }

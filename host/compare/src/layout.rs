@@ -151,3 +151,20 @@ pub fn place(at: usize) -> String {
     let row = (at - HEADER_SIZE) / ROW_SIZE;
     format!("row {row} byte {}", (at - HEADER_SIZE) % ROW_SIZE)
 }
+
+/// Says in words what a ledger's header holds.
+pub fn described(ledger: &[u8]) -> String {
+    let length = ledger.len();
+    if length < HEADER_SIZE {
+        return format!("{length} bytes");
+    }
+    let header = Header {
+        rows: u32_at(ledger, 0),
+        first: u32_at(ledger, 4),
+        next: u64_at(ledger, 8),
+        caps: [16, 24, 32, 40, 48].map(|at| u64_at(ledger, at)),
+        row_size: u32_at(ledger, 56),
+        capacity: u32_at(ledger, 60),
+    };
+    format!("{length} bytes, {header:?}")
+}

@@ -11,6 +11,12 @@ impl Random {
         Random(seed)
     }
 
+    /// A generator for a test; a failure shows the seed that is printed here.
+    pub fn for_test(seed: u64) -> Self {
+        println!("seed {seed}");
+        Random::new(seed)
+    }
+
     /// The next 64 bits.
     pub fn bits(&mut self) -> u64 {
         self.0 = self.0.wrapping_add(0x9e37_79b9_7f4a_7c15);

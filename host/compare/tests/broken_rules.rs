@@ -39,22 +39,20 @@ fn fitting(action: &str) -> Vec<Fault> {
 
 #[test]
 fn sound_cases_are_accepted() {
-    let seed = 101;
-    let mut random = Random::new(seed);
+    let mut random = Random::for_test(101);
     let mut compared = Compared::new();
     for action in ACTIONS {
         for _ in 0..300 {
             try_faults(&mut compared, &mut random, action, &[]);
         }
     }
-    println!("sound cases: seed {seed}, {}", compared.tally);
+    println!("sound cases: {}", compared.tally);
     assert_eq!(compared.tally.verdict(0), compared.tally.submissions);
 }
 
 #[test]
 fn one_rule_broken() {
-    let seed = 102;
-    let mut random = Random::new(seed);
+    let mut random = Random::for_test(102);
     let mut compared = Compared::new();
     for action in ACTIONS {
         for fault in fitting(action) {
@@ -63,15 +61,14 @@ fn one_rule_broken() {
             }
         }
     }
-    println!("one rule: seed {seed}, {}", compared.tally);
+    println!("one rule: {}", compared.tally);
     every_verdict_was_met(&compared.tally, 3..=18);
     every_element_was_met(&compared.tally);
 }
 
 #[test]
 fn two_rules_broken() {
-    let seed = 103;
-    let mut random = Random::new(seed);
+    let mut random = Random::for_test(103);
     let mut compared = Compared::new();
     for action in ACTIONS {
         let faults = fitting(action);
@@ -81,7 +78,7 @@ fn two_rules_broken() {
             }
         }
     }
-    println!("two rules: seed {seed}, {}", compared.tally);
+    println!("two rules: {}", compared.tally);
     // 18 is the last rule: it is never the lower of two.
     every_verdict_was_met(&compared.tally, 3..=17);
     every_element_was_met(&compared.tally);
@@ -89,8 +86,7 @@ fn two_rules_broken() {
 
 #[test]
 fn up_to_six_rules_broken() {
-    let seed = 104;
-    let mut random = Random::new(seed);
+    let mut random = Random::for_test(104);
     let mut compared = Compared::new();
     let all = faults::all();
     for _ in 0..submissions(15_000) {
@@ -98,13 +94,12 @@ fn up_to_six_rules_broken() {
         let chosen = faults::some(&mut random, &all, action, 6);
         try_faults(&mut compared, &mut random, action, &chosen);
     }
-    println!("up to six rules: seed {seed}, {}", compared.tally);
+    println!("up to six rules: {}", compared.tally);
 }
 
 #[test]
 fn every_malformed_value() {
-    let seed = 105;
-    let mut random = Random::new(seed);
+    let mut random = Random::for_test(105);
     let mut compared = Compared::new();
     for action in ACTIONS {
         let highest = if is_full(action) { 25 } else { 5 };
@@ -122,7 +117,7 @@ fn every_malformed_value() {
             }
         }
     }
-    println!("malformed values: seed {seed}, {}", compared.tally);
+    println!("malformed values: {}", compared.tally);
     for code in (1..=25).filter(|&code| code != 2) {
         assert!(compared.tally.element(9, code) >= 4, "9 with {code}");
     }
@@ -130,8 +125,7 @@ fn every_malformed_value() {
 
 #[test]
 fn opening_refuses_1_before_2() {
-    let seed = 106;
-    let mut random = Random::new(seed);
+    let mut random = Random::for_test(106);
     let mut compared = Compared::new();
     let wrong = [0, 995, 1_050, 250_400_000, 1_000_000_000_000_001, u64::MAX];
     for length in [0, 1, 63, 64, 65, 223] {
@@ -149,7 +143,7 @@ fn opening_refuses_1_before_2() {
     }
     compared.set_ledger(&random.bytes(length_for(2)));
     assert_eq!(compared.open(&values::caps(&mut random)).verdict, 0);
-    println!("opening: seed {seed}, {}", compared.tally);
+    println!("opening: {}", compared.tally);
     assert!((0..=2).all(|verdict| compared.tally.verdict(verdict) > 0));
 }
 

@@ -264,8 +264,7 @@ fn lived(random: &mut Random) -> (Vec<u8>, Model, Vec<Vec<u8>>) {
 
 #[test]
 fn bytes_of_the_ledger_changed_at_random() {
-    let seed = 401;
-    let mut random = Random::new(seed);
+    let mut random = Random::for_test(401);
     let mut compared = Compared::new();
     let mut tape = random.bytes(160);
     while compared.tally.submissions < submissions(25_000) {
@@ -284,7 +283,7 @@ fn bytes_of_the_ledger_changed_at_random() {
             compared.status(message.value(1));
         }
     }
-    println!("changed ledgers: seed {seed}, {}", compared.tally);
+    println!("changed ledgers: {}", compared.tally);
     for verdict in [0, 3, 14, 15] {
         assert!(compared.tally.verdict(verdict) > 0, "verdict {verdict}");
     }
@@ -292,8 +291,7 @@ fn bytes_of_the_ledger_changed_at_random() {
 
 #[test]
 fn bytes_of_the_message_changed_at_random() {
-    let seed = 402;
-    let mut random = Random::new(seed);
+    let mut random = Random::for_test(402);
     let mut compared = Compared::new();
     let tape = random.bytes(150);
     while compared.tally.submissions < submissions(25_000) {
@@ -308,7 +306,7 @@ fn bytes_of_the_message_changed_at_random() {
             compared.submit(&message);
         }
     }
-    println!("changed messages: seed {seed}, {}", compared.tally);
+    println!("changed messages: {}", compared.tally);
     for verdict in [0, 5, 6, 9, 10, 15] {
         assert!(compared.tally.verdict(verdict) > 0, "verdict {verdict}");
     }

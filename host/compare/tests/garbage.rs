@@ -11,8 +11,7 @@ use compare::{submissions, values};
 
 #[test]
 fn noise_in_all_buffers() {
-    let seed = 501;
-    let mut random = Random::new(seed);
+    let mut random = Random::for_test(501);
     let mut compared = Compared::new();
     for _ in 0..submissions(25_000) {
         compared.set_ledger(&noise_ledger(&mut random));
@@ -20,7 +19,7 @@ fn noise_in_all_buffers() {
         compared.submit(&noise(&mut random, 2_100));
         compared.status(&noise(&mut random, 60));
     }
-    println!("noise: seed {seed}, {}", compared.tally);
+    println!("noise: {}", compared.tally);
     for verdict in [3, 4, 5] {
         assert!(compared.tally.verdict(verdict) > 0, "verdict {verdict}");
     }
@@ -42,13 +41,12 @@ fn noise_ledger(random: &mut Random) -> Vec<u8> {
 
 #[test]
 fn wild_codes_and_offsets() {
-    let seed = 502;
-    let mut random = Random::new(seed);
+    let mut random = Random::for_test(502);
     let mut compared = opened(&mut random);
     for _ in 0..submissions(25_000) {
         compared.submit(&wild_message(&mut random));
     }
-    println!("wild messages: seed {seed}, {}", compared.tally);
+    println!("wild messages: {}", compared.tally);
     for verdict in [5, 6] {
         assert!(compared.tally.verdict(verdict) > 0, "verdict {verdict}");
     }
@@ -56,8 +54,7 @@ fn wild_codes_and_offsets() {
 
 #[test]
 fn wild_values_under_a_sound_action() {
-    let seed = 503;
-    let mut random = Random::new(seed);
+    let mut random = Random::for_test(503);
     let mut compared = opened(&mut random);
     for _ in 0..submissions(15_000) {
         let action = *random.pick(&ACTIONS);
@@ -73,7 +70,7 @@ fn wild_values_under_a_sound_action() {
         }
         compared.submit(&message.encode());
     }
-    println!("wild values: seed {seed}, {}", compared.tally);
+    println!("wild values: {}", compared.tally);
     assert!(compared.tally.verdict(9) > 0);
 }
 
@@ -87,7 +84,7 @@ fn opened(random: &mut Random) -> Compared {
 
 #[test]
 fn every_prefix_of_a_sound_message() {
-    let mut random = Random::new(504);
+    let mut random = Random::for_test(504);
     let whole = plain_package("1", "12.50").with(11, "True").with(22, "US");
     let bytes = whole.encode();
     // The last value is an asset class of two characters: one byte less makes
@@ -106,7 +103,7 @@ fn every_prefix_of_a_sound_message() {
 
 #[test]
 fn extended_messages() {
-    let mut random = Random::new(505);
+    let mut random = Random::for_test(505);
     let bytes = plain_new().encode();
     for more in 1..=2_100 {
         let mut compared = opened(&mut random);
@@ -124,8 +121,7 @@ fn extended_messages() {
 
 #[test]
 fn prefixes_of_random_messages() {
-    let seed = 506;
-    let mut random = Random::new(seed);
+    let mut random = Random::for_test(506);
     let mut compared = opened(&mut random);
     while compared.tally.submissions < submissions(15_000) {
         let action = *random.pick(&ACTIONS);
@@ -137,7 +133,7 @@ fn prefixes_of_random_messages() {
             }
         }
     }
-    println!("prefixes: seed {seed}, {}", compared.tally);
+    println!("prefixes: {}", compared.tally);
     assert!(compared.tally.verdict(5) > 0);
     assert_eq!(compared.tape().len(), 170);
     assert!(compared.tape().len() > LINE_SIZE);

@@ -173,8 +173,7 @@ fn refused(random: &mut Random, verdict: u8) -> Call {
 
 #[test]
 fn tapes_of_agreeing_histories_are_equal() {
-    let seed = 701;
-    let mut random = Random::new(seed);
+    let mut random = Random::for_test(701);
     let mut compared = Compared::new();
     let (mut pairs, mut lines, mut different) = (0, 0, 0);
     while compared.tally.submissions < submissions(24_000) {
@@ -182,10 +181,7 @@ fn tapes_of_agreeing_histories_are_equal() {
         let first = run(&mut compared, &first);
         let second = run(&mut compared, &second);
         assert_eq!(broken_premises(&first, &second), []);
-        assert!(
-            first.tape == second.tape,
-            "tapes differ in pair {pairs} of seed {seed}"
-        );
+        assert!(first.tape == second.tape, "tapes differ in pair {pairs}");
         pairs += 1;
         lines += first.tape.len() / LINE_SIZE;
         different += first
@@ -196,7 +192,7 @@ fn tapes_of_agreeing_histories_are_equal() {
             .count();
     }
     println!(
-        "histories: seed {seed}, {pairs} pairs, {lines} lines, {}",
+        "histories: {pairs} pairs, {lines} lines, {}",
         compared.tally
     );
     assert!(lines > 5 * pairs && different > 20 * pairs);
@@ -383,8 +379,7 @@ fn premises_do_not_ask_too_much() {
 
 #[test]
 fn random_histories_with_one_public_change() {
-    let seed = 702;
-    let mut random = Random::new(seed);
+    let mut random = Random::for_test(702);
     let mut compared = Compared::new();
     let mut tried = 0;
     while compared.tally.submissions < submissions(12_000) {
@@ -399,7 +394,7 @@ fn random_histories_with_one_public_change() {
         assert!(before.tape != after.tape, "place {place}");
         tried += 1;
     }
-    println!("one change: seed {seed}, {tried} pairs, {}", compared.tally);
+    println!("one change: {tried} pairs, {}", compared.tally);
     assert!(tried > 50);
 }
 

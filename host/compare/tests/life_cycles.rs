@@ -152,8 +152,7 @@ fn tape_before(random: &mut Random) -> Vec<u8> {
 
 #[test]
 fn life_cycles_on_ledgers_of_several_sizes() {
-    let seed = 20_240_301;
-    let mut random = Random::new(seed);
+    let mut random = Random::for_test(20_240_301);
     let mut met = Met::default();
     let wanted = submissions(90_000);
     let lives = 600;
@@ -167,7 +166,7 @@ fn life_cycles_on_ledgers_of_several_sizes() {
         book.check_ledger();
         met.tally.add(&book.compared.tally);
     }
-    println!("life cycles: seed {seed}, {}", met.tally);
+    println!("life cycles: {}", met.tally);
     met.check();
     for verdict in [0, 4, 10, 15, 16, 17] {
         assert!(met.tally.verdict(verdict) > 0, "verdict {verdict}");
@@ -176,23 +175,21 @@ fn life_cycles_on_ledgers_of_several_sizes() {
 
 #[test]
 fn a_ledger_of_400_rows_fills_up() {
-    let seed = 20_240_302;
-    let mut random = Random::new(seed);
+    let mut random = Random::for_test(20_240_302);
     let mut met = Met::default();
     let mut book = Book::open(&mut random, layout::length_for(400), 430);
     for _ in 0..6_000 {
         book.step(&mut random, &mut met);
     }
     book.check_ledger();
-    println!("400 rows: seed {seed}, {}", book.compared.tally);
+    println!("400 rows: {}", book.compared.tally);
     assert_eq!(book.model.rows.len(), 400);
     assert!(book.compared.tally.verdict(sdr::FULL) > 0);
 }
 
 #[test]
 fn a_ledger_longer_than_the_largest_capacity() {
-    let seed = 20_240_303;
-    let mut random = Random::new(seed);
+    let mut random = Random::for_test(20_240_303);
     let mut met = Met::default();
     let length = layout::length_for(LARGEST_CAPACITY) + 7 * 160 + 3;
     let mut book = Book::open(&mut random, length, 12);
@@ -201,6 +198,6 @@ fn a_ledger_longer_than_the_largest_capacity() {
         book.step(&mut random, &mut met);
     }
     book.check_ledger();
-    println!("longest ledger: seed {seed}, {}", book.compared.tally);
+    println!("longest ledger: {}", book.compared.tally);
     assert!(book.compared.tally.verdict(0) > 0);
 }

@@ -20,8 +20,7 @@ fn refused(verdict: u8, element: u8) -> Answer {
 
 #[test]
 fn a_refusal_changes_nothing() {
-    let seed = 901;
-    let mut random = Random::new(seed);
+    let mut random = Random::for_test(901);
     let mut compared = Compared::new();
     for action in ACTIONS {
         for fault in faults::all().into_iter().filter(|fault| fault.fits(action)) {
@@ -36,13 +35,13 @@ fn a_refusal_changes_nothing() {
             assert_eq!(compared.tape(), tape, "{action} {fault:?}");
         }
     }
-    println!("refusals: seed {seed}, {}", compared.tally);
+    println!("refusals: {}", compared.tally);
     assert_eq!(compared.tally.verdict(0), 0);
 }
 
 #[test]
 fn a_refused_opening_changes_nothing() {
-    let mut random = Random::new(902);
+    let mut random = Random::for_test(902);
     let mut compared = Compared::new();
     for (length, caps) in [
         (0, CAPS),

@@ -392,7 +392,7 @@ fn capacities() {
 
 #[test]
 fn status_steps() {
-    let mut random = Random::new(601);
+    let mut random = Random::for_test(601);
     let mut asked = 0;
     for line in lines("step") {
         let fields = line.fields();
