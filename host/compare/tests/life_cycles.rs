@@ -33,28 +33,28 @@ struct Met {
 }
 
 /// A ledger in use, with its model.
-struct Book {
+struct Ledger {
     compared: Compared,
     model: Model,
     utis: Vec<Vec<u8>>,
     before: Vec<u8>,
 }
 
-impl Book {
-    fn open(random: &mut Random, length: usize, swaps: usize) -> Book {
+impl Ledger {
+    fn open(random: &mut Random, length: usize, swaps: usize) -> Ledger {
         let caps = values::caps(random);
         let before = random.bytes(length);
         let mut compared = Compared::new();
         compared.set_ledger(&before);
         assert_eq!(compared.open(&caps).verdict, 0);
-        let book = Book {
+        let ledger = Ledger {
             compared,
             model: Model::opened(length, caps),
             utis: values::utis(random, swaps),
             before,
         };
-        book.check_ledger();
-        book
+        ledger.check_ledger();
+        ledger
     }
 
     /// Submits one message, holds both to the model, asks two statuses.
@@ -159,12 +159,12 @@ fn life_cycles_on_ledgers_of_several_sizes() {
     while met.tally.submissions < wanted {
         let length = *random.pick(&LENGTHS);
         let swaps = (layout::capacity(length) + 2).min(90);
-        let mut book = Book::open(&mut random, length, swaps);
+        let mut ledger = Ledger::open(&mut random, length, swaps);
         for _ in 0..lives {
-            book.step(&mut random, &mut met);
+            ledger.step(&mut random, &mut met);
         }
-        book.check_ledger();
-        met.tally.add(&book.compared.tally);
+        ledger.check_ledger();
+        met.tally.add(&ledger.compared.tally);
     }
     println!("life cycles: {}", met.tally);
     met.check();
@@ -177,14 +177,14 @@ fn life_cycles_on_ledgers_of_several_sizes() {
 fn a_ledger_of_400_rows_fills_up() {
     let mut random = Random::for_test(20_240_302);
     let mut met = Met::default();
-    let mut book = Book::open(&mut random, layout::length_for(400), 430);
+    let mut ledger = Ledger::open(&mut random, layout::length_for(400), 430);
     for _ in 0..6_000 {
-        book.step(&mut random, &mut met);
+        ledger.step(&mut random, &mut met);
     }
-    book.check_ledger();
-    println!("400 rows: {}", book.compared.tally);
-    assert_eq!(book.model.rows.len(), 400);
-    assert!(book.compared.tally.verdict(sdr::FULL) > 0);
+    ledger.check_ledger();
+    println!("400 rows: {}", ledger.compared.tally);
+    assert_eq!(ledger.model.rows.len(), 400);
+    assert!(ledger.compared.tally.verdict(sdr::FULL) > 0);
 }
 
 #[test]
@@ -192,12 +192,12 @@ fn a_ledger_longer_than_the_largest_capacity() {
     let mut random = Random::for_test(20_240_303);
     let mut met = Met::default();
     let length = layout::length_for(LARGEST_CAPACITY) + 7 * 160 + 3;
-    let mut book = Book::open(&mut random, length, 12);
-    assert_eq!(book.model.header.capacity, 100_000);
+    let mut ledger = Ledger::open(&mut random, length, 12);
+    assert_eq!(ledger.model.header.capacity, 100_000);
     for _ in 0..60 {
-        book.step(&mut random, &mut met);
+        ledger.step(&mut random, &mut met);
     }
-    book.check_ledger();
-    println!("longest ledger: {}", book.compared.tally);
-    assert!(book.compared.tally.verdict(0) > 0);
+    ledger.check_ledger();
+    println!("longest ledger: {}", ledger.compared.tally);
+    assert!(ledger.compared.tally.verdict(0) > 0);
 }

@@ -62,17 +62,17 @@ fn null_with_length_0_is_an_empty_buffer() {
     let mut ledger = opened();
     let before = ledger.clone();
     let mut tape = [7; 146];
-    let (book, size) = (ledger.as_mut_ptr(), ledger.len());
+    let (start, size) = (ledger.as_mut_ptr(), ledger.len());
     // SAFETY: each pointer is NULL with length 0 or that of a whole vector or
     // array that nothing else uses meanwhile.
     let answers = unsafe {
         [
             u64::from(sdr_open(null_mut(), 0, 1000, 1000, 1000, 1000, 1000)),
             sdr_submit(null_mut(), 0, tape.as_mut_ptr(), 146, null(), 0),
-            sdr_submit(book, size, null_mut(), 0, null(), 0),
-            sdr_submit(book, size, tape.as_mut_ptr(), 146, null(), 0),
+            sdr_submit(start, size, null_mut(), 0, null(), 0),
+            sdr_submit(start, size, tape.as_mut_ptr(), 146, null(), 0),
             sdr_status(null(), 0, null(), 0),
-            sdr_status(book, size, null(), 0),
+            sdr_status(start, size, null(), 0),
         ]
     };
     assert_eq!(answers, [1, 3, 4, 5, 3, 9 | 1 << 8]);
