@@ -3,7 +3,7 @@
 
 use compare::compared::Compared;
 use compare::cycles::{next_message, Model};
-use compare::layout::{self, LARGEST_CAPACITY, LINE_SIZE};
+use compare::layout::{self, HIGHEST_NEXT, LARGEST_CAPACITY, LINE_SIZE};
 use compare::matrix::{self, ACTIONS};
 use compare::message::{described, Message};
 use compare::random::Random;
@@ -200,4 +200,29 @@ fn a_ledger_longer_than_the_largest_capacity() {
     ledger.check_ledger();
     println!("longest ledger: {}", ledger.compared.tally);
     assert!(ledger.compared.tally.verdict(0) > 0);
+}
+
+#[test]
+fn identifiers_run_out() {
+    let mut random = Random::for_test(20_240_304);
+    let mut met = Met::default();
+    let mut ledger = Ledger::open(&mut random, layout::length_for(30), 40);
+    ledger.model.header.next = HIGHEST_NEXT - 100;
+    ledger.before[..layout::HEADER_SIZE].copy_from_slice(&ledger.model.header.encode());
+    ledger.compared.set_ledger(&ledger.before);
+    for _ in 0..1_500 {
+        ledger.step(&mut random, &mut met);
+    }
+    ledger.check_ledger();
+    println!("spent identifiers: {}", ledger.compared.tally);
+    assert_eq!(ledger.model.header.next, HIGHEST_NEXT);
+    assert!(ledger.compared.tally.verdict(sdr::SPENT) > 0);
+    // Nothing but PRTO is accepted then.
+    let ported = ledger
+        .model
+        .rows
+        .iter()
+        .filter(|row| row.status == sdr::PORTED);
+    let accepted = ledger.compared.tally.verdict(0) - ledger.compared.tally.openings;
+    assert_eq!(accepted, 100 + ported.count() as u64);
 }
