@@ -8,7 +8,7 @@ use Rattle.octets.specs.Choice.{choose}
 use Rattle.actions.specs.declared.Action.{Action}
 use Rattle.actions.specs.declared.Action.the-variants.{Newt, Modi, Corr, Term, Eror, Revi, Prto}
 use Rattle.actions.specs.Actions.{isFull, writesLine, isNew}
-use Rattle.actions.specs.Statuses.{unknown, live, noStep, nextStatus}
+use Rattle.actions.specs.Statuses.{unknown, live, noStep, nextStatus, repeatsTime}
 
 pub is-newt : (a : Action) → isNew a ≡ true → a ≡ Newt
 is-newt Newt e = refl
@@ -38,6 +38,16 @@ line-if-full Term e = absurd (false≢true (sym e))
 line-if-full Eror e = absurd (false≢true (sym e))
 line-if-full Revi e = absurd (false≢true (sym e))
 line-if-full Prto e = refl
+
+-- NEWT repeats no execution time
+pub old-if-repeats : (a : Action) → repeatsTime a ≡ true → isNew a ≡ false
+old-if-repeats Newt e = absurd (false≢true e)
+old-if-repeats Modi e = refl
+old-if-repeats Corr e = refl
+old-if-repeats Term e = refl
+old-if-repeats Eror e = refl
+old-if-repeats Revi e = refl
+old-if-repeats Prto e = refl
 
 -- an unknown swap admits NEWT alone
 pub old-unknown : (a : Action) → isNew a ≡ false → nextStatus a unknown ≡ noStep

@@ -5,8 +5,15 @@ use crate::ACTIONS;
 use crate::Action;
 use crate::row_of;
 
-// The status with the largest number.
-const PORTED: u8 = 4;
+// Statuses have the numbers from live to ported; an unknown swap has none.
+pub const UNKNOWN: u8 = 0;
+
+pub const LIVE: u8 = 1;
+
+pub const PORTED: u8 = 4;
+
+// Stands for 'no such step exists': no step leads to unknown.
+pub const NO_STEP: u8 = 0;
 
 // The steps of statuses. Columns: from unknown, live, closed, errored, ported; 0 where no step exists.
 const STEPS: [[u8; 5]; ACTIONS] = [
@@ -19,12 +26,12 @@ const STEPS: [[u8; 5]; ACTIONS] = [
     [0, 4, 0, 0, 0], // PRTO
 ];
 
-// The swap's status after the action, or 0 where no such step exists.
+// The swap's status after the action, where such a step exists.
 pub fn status_after(a: Action, status: u8) -> u8
     ensures { λ r. ⌜ r ≡ nextStatus a status ⌝ }
 {
     if PORTED < status {
-        return 0;
+        return NO_STEP;
     }
     let row = row_of(a);
     let column = status as usize;

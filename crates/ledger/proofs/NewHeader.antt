@@ -8,29 +8,34 @@ use native.Mathlib.Nat.{sub-zero}
 use lib.ListN.{length, getD, drop}
 use lib.Dec.{lit<}
 use Rattle.octets.specs.Part.{part, splice}
-use Rattle.octets.specs.Fields.{noField, Placed}
+use Rattle.octets.specs.Fields.{noField, written, Placed}
 use Rattle.octets.specs.Number.{fromLe, toLe}
 use Rattle.octets.proofs.ChoiceLaws.{both-first, both-second}
 use Rattle.octets.proofs.PartLaws.{length-splice}
 use Rattle.octets.proofs.NumberLaws.{length-toLe, fromLe-toLe}
 use Rattle.octets.proofs.FieldLaws.{field-exact}
-use Rattle.octets.proofs.FieldRun.{inPlace, length-bytes, front-placed, front-later}
+use Rattle.octets.proofs.FieldRun.{inPlace, length-bytes, all-written, front-placed, front-later}
 use Rattle.notional.specs.Masking.{isCap}
 use Rattle.notional.proofs.MaskingLaws.{cap-largest}
 use Rattle.ledger.specs.declared.header.Caps.{Caps}
 use Rattle.ledger.specs.Layout.{u32, u64, rowsAt, headerSize, rowSize, shortestLedger}
-use Rattle.ledger.specs.Header.{rowsInUse, firstRow, nextIdentifier, capsIn, sizeOfRows, capacityIn, areCaps, capacityFor, headerRight, headerFields, newHeader}
+use Rattle.ledger.specs.Header.{rowsInUse, firstRow, nextIdentifier, capsIn, sizeOfRows, capacityIn, areCaps, capacityFor, headerRight, capFields, headerFields, newHeader}
 use Rattle.ledger.proofs.RightHeader.{header-right}
 
 module _ (caps : Caps) (capacity : ℕ) where
   -- the fields follow each other from the header's start to its end
   pub header-in-place : inPlace rowsAt (headerFields caps capacity) headerSize ≡ true
-  unfolding inPlace headerFields
+  unfolding inPlace headerFields capFields
   header-in-place = refl
 
   pub length-header : length (newHeader caps capacity) ≡ headerSize
   unfolding newHeader
   length-header = omega (arith, length-bytes rowsAt (headerFields caps capacity) headerSize header-in-place)
+
+  -- its fields, written one after the other
+  pub header-written : (d : List ℕ) {last : List ℕ} → length d ≡ headerSize → last ≡ written rowsAt (headerFields caps capacity) d → last ≡ newHeader caps capacity
+  unfolding newHeader
+  header-written d size run = all-written rowsAt (headerFields caps capacity) headerSize d header-in-place size run
 
 module _ (caps : Caps) (capacity : ℕ) (l : List ℕ) (room : headerSize ≤ length l) where
   fits : rowsAt + length (newHeader caps capacity) ≤ length l
@@ -54,22 +59,22 @@ module _ (caps : Caps) (capacity : ℕ) (l : List ℕ) (room : headerSize ≤ le
   read-back k h size = (rw sub-zero at (opened-placed k h)) ∙ field-exact _ _ size
 
   pub opened-rows : rowsInUse (splice l rowsAt (newHeader caps capacity)) ≡ 0
-  unfolding rowsInUse headerFields
+  unfolding rowsInUse headerFields capFields
   opened-rows = ap fromLe (read-back 0 (lit< tt) (length-toLe u32 0)) ∙ fromLe-toLe u32 0 (lit< tt)
 
   pub opened-first : firstRow (splice l rowsAt (newHeader caps capacity)) ≡ headerSize
-  unfolding firstRow headerFields
+  unfolding firstRow headerFields capFields
   opened-first = ap fromLe (read-back 1 (lit< tt) (length-toLe u32 headerSize)) ∙ fromLe-toLe u32 headerSize (lit< tt)
 
   pub opened-next : nextIdentifier (splice l rowsAt (newHeader caps capacity)) ≡ 1
-  unfolding nextIdentifier headerFields
+  unfolding nextIdentifier headerFields capFields
   opened-next = ap fromLe (read-back 2 (lit< tt) (length-toLe u64 1)) ∙ fromLe-toLe u64 1 (lit< tt)
 
   cap-back : (cap : ℕ) → isCap cap ≡ true → fromLe (toLe u64 cap) ≡ cap
   cap-back cap e = fromLe-toLe u64 cap (omega (arith, cap-largest cap e))
 
   pub opened-caps : areCaps caps ≡ true → capsIn (splice l rowsAt (newHeader caps capacity)) ≡ caps
-  unfolding capsIn headerFields areCaps
+  unfolding capsIn headerFields capFields areCaps
   opened-caps e =
       let ir = both-second (isCap (caps .cr)) _ e in
       let fx = both-second (isCap (caps .ir)) _ ir in
@@ -89,11 +94,11 @@ module _ (caps : Caps) (capacity : ℕ) (l : List ℕ) (room : headerSize ≤ le
       )
 
   pub opened-size : sizeOfRows (splice l rowsAt (newHeader caps capacity)) ≡ rowSize
-  unfolding sizeOfRows headerFields
+  unfolding sizeOfRows headerFields capFields
   opened-size = ap fromLe (read-back 8 (lit< tt) (length-toLe u32 rowSize)) ∙ fromLe-toLe u32 rowSize (lit< tt)
 
   pub opened-capacity : capacity < 256 ^ u32 → capacityIn (splice l rowsAt (newHeader caps capacity)) ≡ capacity
-  unfolding capacityIn headerFields
+  unfolding capacityIn headerFields capFields
   opened-capacity h = ap fromLe (read-back 9 (lit< tt) (length-toLe u32 capacity)) ∙ fromLe-toLe u32 capacity h
 
 -- a ledger that opening has written is right

@@ -1,7 +1,7 @@
 -- Document 01, 'The ledger': the header, and when it is right (verdict 3).
 use Prim.Native.Nat.{ℕ, _-_, _/_, min}
 use mathlib.Core.Bool.{Bool}
-use mathlib.Core.List.{List, [], _∷_}
+use mathlib.Core.List.{List, [], _∷_, _++_}
 use lib.ListN.{length}
 use lib.Dec.{eqb, leb}
 use Rattle.octets.specs.Choice.{choose, both}
@@ -76,19 +76,23 @@ checkedHeader largest l = choose (headerRight largest l) (Value (headerOf l)) Fa
 
 -- ---- the header that opening writes
 
+-- five caps in the order CR, IR, FX, EQ, CO
+unfoldable pub capFields : Caps → List FieldAt
+capFields caps =
+    (capAt 0, u64, toLe u64 (caps .cr))
+    ∷ (capAt 1, u64, toLe u64 (caps .ir))
+    ∷ (capAt 2, u64, toLe u64 (caps .fx))
+    ∷ (capAt 3, u64, toLe u64 (caps .eq))
+    ∷ (capAt 4, u64, toLe u64 (caps .co))
+    ∷ []
+
+-- 0 rows in use and next identifier 1
 unfoldable pub headerFields : Caps → ℕ → List FieldAt
 headerFields caps capacity =
     (rowsAt, u32, toLe u32 0)
     ∷ (firstRowAt, u32, toLe u32 headerSize)
     ∷ (nextAt, u64, toLe u64 1)
-    ∷ (capAt 0, u64, toLe u64 (caps .cr))
-    ∷ (capAt 1, u64, toLe u64 (caps .ir))
-    ∷ (capAt 2, u64, toLe u64 (caps .fx))
-    ∷ (capAt 3, u64, toLe u64 (caps .eq))
-    ∷ (capAt 4, u64, toLe u64 (caps .co))
-    ∷ (rowSizeAt, u32, toLe u32 rowSize)
-    ∷ (capacityAt, u32, toLe u32 capacity)
-    ∷ []
+    ∷ (capFields caps ++ ((rowSizeAt, u32, toLe u32 rowSize) ∷ (capacityAt, u32, toLe u32 capacity) ∷ []))
 
 unfoldable pub newHeader : Caps → ℕ → List ℕ
 newHeader caps capacity = bytesOf (headerFields caps capacity)

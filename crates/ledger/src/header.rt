@@ -2,9 +2,13 @@
 ghost use mathlib.Core.Path.{_≡_};
 ghost use Rattle.ledger.specs.Header.{capsIn, capFor, areCaps, capacityFor, headerOf, headerRight, checkedHeader};
 use crate::layout::CAPACITY_AT;
-use crate::layout::CAPS_AT;
+use crate::layout::CO_AT;
+use crate::layout::CR_AT;
+use crate::layout::EQ_AT;
 use crate::layout::FIRST_ROW_AT;
+use crate::layout::FX_AT;
 use crate::layout::HEADER_SIZE;
+use crate::layout::IR_AT;
 use crate::layout::LAST_IDENTIFIER;
 use crate::layout::NEXT_AT;
 use crate::layout::ROW_SIZE;
@@ -98,11 +102,11 @@ fn read_caps(l: &[u8]) -> Caps
     ensures { λ r. ⌜ r ≡ capsIn (now (l .entry)) ⌝ }
 {
     Caps {
-        cr: read_at(l, CAPS_AT, U64),
-        ir: read_at(l, CAPS_AT + U64, U64),
-        fx: read_at(l, CAPS_AT + 2 * U64, U64),
-        eq: read_at(l, CAPS_AT + 3 * U64, U64),
-        co: read_at(l, CAPS_AT + 4 * U64, U64),
+        cr: read_at(l, CR_AT, U64),
+        ir: read_at(l, IR_AT, U64),
+        fx: read_at(l, FX_AT, U64),
+        eq: read_at(l, EQ_AT, U64),
+        co: read_at(l, CO_AT, U64),
     }
 }
 

@@ -12,7 +12,16 @@ pub const FIRST_ROW_AT: usize = 4;
 
 pub const NEXT_AT: usize = 8;
 
-pub const CAPS_AT: usize = 16;
+// The caps of the asset classes.
+pub const CR_AT: usize = 16;
+
+pub const IR_AT: usize = CR_AT + U64;
+
+pub const FX_AT: usize = IR_AT + U64;
+
+pub const EQ_AT: usize = FX_AT + U64;
+
+pub const CO_AT: usize = EQ_AT + U64;
 
 pub const ROW_SIZE_AT: usize = 56;
 

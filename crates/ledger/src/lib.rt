@@ -2,6 +2,7 @@
 mod header;
 mod layout;
 mod line;
+mod opening;
 mod rows;
 mod search;
 
@@ -17,11 +18,13 @@ pub use layout::LAST_IDENTIFIER;
 pub use layout::NEXT_AT;
 pub use layout::ROW_SIZE;
 pub use layout::ROWS_AT;
+pub use layout::SHORTEST_LEDGER;
 pub use layout::U32;
 pub use layout::U64;
 pub use layout::UTI_SIZE;
 pub use line::LINE_SIZE;
 pub use line::write_line;
+pub use opening::write_header;
 pub use rows::store_row;
 pub use rows::update_header;
 pub use search::find_row;

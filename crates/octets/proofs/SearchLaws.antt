@@ -91,6 +91,16 @@ first-from f k (suc d) = go (f k) (first-from f (suc k) d)
     go true l = omega arith
     go false l = omega arith
 
+-- nor behind it
+pub first-most : (f : ℕ → Bool) (k d : ℕ) → firstFrom f k d ≤ k + d
+unfolding firstFrom
+first-most f k zero = omega arith
+first-most f k (suc d) = go (f k) (first-most f (suc k) d)
+  where
+    go : (t : Bool) → firstFrom f (suc k) d ≤ suc k + d → choose t k (firstFrom f (suc k) d) ≤ k + suc d
+    go true l = omega arith
+    go false l = omega arith
+
 -- two tests that agree on the range have the same first number
 pub first-same : (f g : ℕ → Bool) (k d : ℕ) → ((i : ℕ) → i < k + d → f i ≡ g i) → firstFrom f k d ≡ firstFrom g k d
 unfolding firstFrom

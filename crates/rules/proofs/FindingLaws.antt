@@ -151,6 +151,16 @@ passed-then (r ∷ rs) after all =
     let here : r .1 ≡ passed = all zero (omega arith) in
     rw here (passed-then rs after (λ i h. all (suc i) (omega arith)))
 
+-- where one is broken, those after it do not count
+pub broken-then : (rs after : List (ℕ × Finding)) → (firstBroken rs .0 ≡ 0 → ⊥) → firstBroken (rs ++ after) ≡ firstBroken rs
+unfolding firstBroken
+broken-then [] after some = absurd (some refl)
+broken-then (r ∷ rs) after some = by (r .1) some (broken-then rs after)
+  where
+    by : (f : Finding) → (orElse (r .0) f (firstBroken rs) .0 ≡ 0 → ⊥) → ((firstBroken rs .0 ≡ 0 → ⊥) → firstBroken (rs ++ after) ≡ firstBroken rs) → orElse (r .0) f (firstBroken (rs ++ after)) ≡ orElse (r .0) f (firstBroken rs)
+    by passed g rest = rest g
+    by (broken e) g rest = refl
+
 -- ---- the lowest element at fault
 
 -- an element is at fault, and no lower one is

@@ -28,7 +28,7 @@ use Rattle.rules.proofs.JudgeLaws.{neededAt, takenAt, formedAt, dueAt}
 use Rattle.rules.proofs.FindingLaws.{numberAt, findingAt, unused, distinct, FirstBroken, broken-first, first-broken, all-passed, none-broken, LowestAtFault, lowest-broken}
 
 -- no two rules have the same number, and none has 0
-differ : (r : Checked) (longest : ℕ) (m : List ℕ) → distinct (rulesFor r longest m) ≡ true
+pub differ : (r : Checked) (longest : ℕ) (m : List ℕ) → distinct (rulesFor r longest m) ≡ true
 unfolding rulesFor unused distinct rulesOf
 differ (Fault code) longest m = refl
 differ (Value a) longest m = refl

@@ -94,6 +94,18 @@ module _ (limits : Limits) (l t m : List ℕ) where
 
 -- ---- what the rules that an accepted message passes say
 
+-- an action other than NEWT is admitted only for a known swap
+pub step-known : (l u : List ℕ) (a : Action) → eqb (nextStatus a (swapStatus l u)) noStep ≡ false → isNew a ≡ false → isKnown l u ≡ true
+unfolding swapStatus
+step-known l u a admitted old = by (isKnown l u) refl
+  where
+    by : (b : Bool) → isKnown l u ≡ b → isKnown l u ≡ true
+    by true k = k
+    by false k =
+        let none : swapStatus l u ≡ unknown = rw k in
+        let step : nextStatus a (swapStatus l u) ≡ noStep = ap (nextStatus a) none ∙ old-unknown a old in
+        absurd (false≢true (sym admitted ∙ ap (λ s. eqb s noStep) step))
+
 -- a value of the form of a UTI
 uti-long : (v : List ℕ) → hasForm uti v ≡ true → length v ≤ utiSize
 unfolding hasForm formOf runOf
@@ -162,14 +174,6 @@ module _ (limits : Limits) (l t m : List ℕ) (a : Action) (passes : (i : ℕ) �
   unfolding hasWrongRow
   row-right k = not-not _ (both-false (isKnown l (swapOf m)) _ row-test k)
 
-  is-known : (b : Bool) → isKnown l (swapOf m) ≡ b → isNew a ≡ false → isKnown l (swapOf m) ≡ true
-  unfolding swapStatus
-  is-known true k e = k
-  is-known false k e =
-      let none : swapStatus l (swapOf m) ≡ unknown = rw k in
-      let step : nextStatus a (swapStatus l (swapOf m)) ≡ noStep = ap (nextStatus a) none ∙ old-unknown a e in
-      absurd (false≢true (sym status-test ∙ ap (λ s. eqb s noStep) step))
-
   is-free : (b : Bool) → isKnown l (swapOf m) ≡ b → isNew a ≡ true → isKnown l (swapOf m) ≡ false
   unfolding swapStatus rowRight
   is-free false k e = k
@@ -186,7 +190,7 @@ module _ (limits : Limits) (l t m : List ℕ) (a : Action) (passes : (i : ℕ) �
   place-fits true e h =
       let differ : eqb (rowsInUse l) (capacityIn l) ≡ false = both-false (isNew a) _ room-test e in
       rw e (omega (arith, eqb-false (rowsInUse l) (capacityIn l) differ))
-  place-fits false e h = rw e (omega (arith, ltb-true (placeOf l (swapOf m)) (rowsInUse l) (is-known (isKnown l (swapOf m)) refl e)))
+  place-fits false e h = rw e (omega (arith, ltb-true (placeOf l (swapOf m)) (rowsInUse l) (step-known l (swapOf m) a status-test e)))
 
   all-fit : Fits limits l t m a
   all-fit =
@@ -196,7 +200,7 @@ module _ (limits : Limits) (l t m : List ℕ) (a : Action) (passes : (i : ℕ) �
         tape = ltb-false _ _ tape-test;
         uti = uti-long (swapOf m) formed;
         free = is-free (isKnown l (swapOf m)) refl;
-        known = is-known (isKnown l (swapOf m)) refl;
+        known = step-known l (swapOf m) a status-test;
         place = place-fits (isNew a) refl (h .rows);
       }
 

@@ -63,7 +63,7 @@ length-masked : (caps : Caps) (m : List ℕ) → length (maskedTerms caps m) ≡
 unfolding maskedTerms
 length-masked caps m = length-terms (capFor caps (value assetClass m)) m
 
-length-stored : (r : List ℕ) → length r ≡ rowSize → length (storedTerms r) ≡ termsSize
+pub length-stored : (r : List ℕ) → length r ≡ rowSize → length (storedTerms r) ≡ termsSize
 unfolding storedTerms
 length-stored r size = length-part r termsAt termsSize (omega arith)
 

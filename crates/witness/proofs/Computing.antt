@@ -25,7 +25,7 @@ use Rattle.price.specs.Price.{dropZeros, trimZeros, shownWhole, shownDecimals, 
 use Rattle.terms.specs.Terms.{shownTruth, priceText, plusText, dateFields, truthFields, priceFields, notionalFields, termFields, termsOf}
 use Rattle.rules.specs.Findings.{lowest, firstBroken}
 use Rattle.rules.specs.Rules.{longPrice, priceTooLong, outOfOrder, rulesOf, rulesFor}
-use Rattle.ledger.specs.Header.{rowsInUse, firstRow, nextIdentifier, capsIn, sizeOfRows, capacityIn, capFor, areCaps, capacityFor, headerRight, headerFields, newHeader}
+use Rattle.ledger.specs.Header.{rowsInUse, firstRow, nextIdentifier, capsIn, sizeOfRows, capacityIn, capFor, areCaps, capacityFor, headerRight, headerFields, capFields, newHeader}
 use Rattle.ledger.specs.Line.{lineFields, line}
 use Rattle.ledger.specs.Rows.{rowAt, statusOf, identifierOf, storedTerms, storedTime, holdsUti, placeIn, isKnown, swapStatus, swapIdentifier, rowFields, newRow, withStatus, withIdentifier, withTerms, withRows, withNext, headerAfter}
 use Rattle.submission.specs.Demand3.{lastTerms, termsAt}
@@ -59,7 +59,7 @@ unfolding lowest firstBroken longPrice priceTooLong outOfOrder rulesOf rulesFor
 judging = tt
 
 storing : Unit {0}
-unfolding rowsInUse firstRow nextIdentifier capsIn sizeOfRows capacityIn capFor areCaps capacityFor headerRight headerFields newHeader lineFields line rowAt statusOf identifierOf storedTerms storedTime holdsUti placeIn isKnown swapStatus swapIdentifier rowFields newRow withStatus withIdentifier withTerms withRows withNext headerAfter
+unfolding rowsInUse firstRow nextIdentifier capsIn sizeOfRows capacityIn capFor areCaps capacityFor headerRight headerFields capFields newHeader lineFields line rowAt statusOf identifierOf storedTerms storedTime holdsUti placeIn isKnown swapStatus swapIdentifier rowFields newRow withStatus withIdentifier withTerms withRows withNext headerAfter
 storing = tt
 
 submitting : Unit {0}

@@ -1,0 +1,85 @@
+-- `repository::apply::apply` meets its contract. Assumes nothing.
+use mathlib.Core.Path.{_≡_, refl, sym, ap, _∙_}
+use mathlib.Core.List.{List}
+use Prim.Native.Nat.{ℕ}
+use lib.ListN.{length}
+use denote.Ref.{now}
+use Rattle.octets.specs.Choice.{choose}
+use Rattle.octets.specs.Part.{splice}
+use Rattle.actions.specs.Actions.{writesLine}
+use Rattle.terms.specs.Terms.{termsSize}
+use Rattle.ledger.specs.Layout.{rowStart}
+use Rattle.ledger.specs.Rows.{rowAt, rowAfter, headerAfter}
+use Rattle.ledger.specs.Line.{line}
+use Rattle.submission.specs.Submission.{swapOf, termsFor}
+use Rattle.repository.proofs.StepLaws.{uti-fits, terms-are, line-is, ledger-is}
+use borrow.Author.Needs.{needs}
+use Rattle.repository.proofs.apply.apply.Statement.{statement}
+use Rattle.repository.proofs.apply.apply.Tie as tie
+
+abbrev start : tie.After-collect-terms → tie.Start
+start c = c .before .before .before .before .before .before
+
+-- the terms that were collected
+terms : (c : tie.After-collect-terms) → c .collect-terms .last .0 ≡ termsFor (start c .args .step .action) (now (start c .args .l)) (now (start c .args .m))
+terms c = c .collect-terms .ensures ∙ terms-are _ _ _ (start c .args .step) (start c .pre)
+
+collect-terms-requires : tie.Need-collect-terms-requires
+collect-terms-requires c κs =
+    let f = c .before .before .before .before .before .pre in
+    (refl, f .row, f .caps)
+
+-- from each later call
+abbrev t1 : tie.After-publish → tie.After-collect-terms
+t1 c = c .before .before .before .before
+
+abbrev t2 : tie.After-terms4 → tie.After-collect-terms
+t2 c = t1 (c .before .before .before .before .before)
+
+long : (c : tie.After-collect-terms) → length (c .collect-terms .last .0) ≡ termsSize
+long c = search needs
+
+store-row-requires : tie.Need-store-row-requires
+store-row-requires c κs =
+    let f = start (t2 c) .pre in
+    (f .row, uti-fits _ _ (f .uti) (c .before .element .ensures .0), long (t2 c))
+
+update-header-requires : tie.Need-update-header-requires
+update-header-requires c κs =
+    let r = c .before .before .before in
+    let f = start (t2 (r .before)) .pre in
+    (search needs, f .rows, f .next)
+
+returns : tie.Need-returns
+returns c =
+    let h = c .before .before in
+    let r = h .before .before .before .before in
+    let p = r .before .before .before .before .before .before in
+    let k = t1 p in
+    let s = start k in
+    let a = s .args in
+    let step = a .step in
+    let l = now (a .l) in
+    let m = now (a .m) in
+    let row = r .store-row .ensures
+    ∙ ap (λ u. splice l (rowStart (step .place)) (rowAfter (step .action) (step .status) u (step .next) (k .collect-terms .last .0) (rowAt l (step .place)))) (r .before .before .element .ensures .0)
+    ∙ ap (λ t. splice l (rowStart (step .place)) (rowAfter (step .action) (step .status) (swapOf m) (step .next) t (rowAt l (step .place)))) (terms k) in
+    let line = p .publish .ensures ∙ ap (λ t. choose (writesLine (step .action)) (splice (now (a .tape)) 0 (line (step .action) (step .next) (step .previous) m t)) (now (a .tape))) (terms k)
+    ∙ ap (λ x. choose (writesLine (step .action)) (splice (now (a .tape)) 0 x) (now (a .tape))) (line-is _ _ _ step (s .pre)) in
+    (h .update-header .ensures ∙ ap (headerAfter (step .action) (step .rows) (step .next)) row ∙ ledger-is _ _ _ step (s .pre), line)
+
+pub apply-spec : {M : Type 1} → statement M
+apply-spec =
+    tie.close
+    (tie.spec
+    (λ c. search needs)
+    collect-terms-requires
+    (λ c. search needs)
+    (λ c κs. search needs)
+    (λ c κs. search needs)
+    (λ c. search needs)
+    store-row-requires
+    update-header-requires
+    (λ c. search needs)
+    (λ c. search needs)
+    returns)

@@ -1,0 +1,42 @@
+-- `repository::sdr_submit` meets its contract. Assumes nothing.
+use mathlib.Core.Path.{_∙_, ap}
+use Prim.Native.Nat.{_<_}
+use lib.Dec.{lit<}
+use Rattle.submission.specs.Opening.{documentLimits}
+use Rattle.submission.proofs.Demand1.{submission-answers}
+use Rattle.submission.proofs.Demand2.{verdict-exactly, checking-order, accepted-exactly, acceptance-writes}
+use Rattle.submission.proofs.Demand3.{tape-told, same-tapes}
+use Rattle.submission.proofs.Counting.{identifier-with-line, identifier-counts, quiet-call}
+use Rattle.repository.specs.declared.answer.Answer.{Answer}
+use Rattle.repository.specs.Answers.{identifierLimit}
+use Rattle.repository.specs.Demands.{Submission-demands}
+use Rattle.repository.proofs.AnswerSizes.{carried, submission-small}
+use borrow.Author.Needs.{needs}
+use Rattle.repository.proofs.sdr_submit.Statement.{statement}
+use Rattle.repository.proofs.sdr_submit.Tie as tie
+
+demands : Submission-demands
+demands =
+    record {
+      answers = submission-answers;
+      exactly = verdict-exactly;
+      order = checking-order;
+      accepted = accepted-exactly;
+      writes = acceptance-writes;
+      tapes = same-tapes;
+      told = tape-told;
+      line = identifier-with-line;
+      counts = identifier-counts;
+      quiet = quiet-call;
+    }
+
+pack-requires : tie.Need-pack-requires
+pack-requires c κs = carried _ _ (c .before .before .before .before .submit .ensures .0) (submission-small documentLimits _ _ _ (lit< tt))
+
+returns : tie.Need-returns
+returns c =
+    let s = c .before .before .before .before .before .submit .ensures in
+    (c .pack .ensures .1 ∙ s .0, (s .1 .0, (s .1 .1, demands)))
+
+pub sdr-submit-spec : {M : Type 1} → statement M
+sdr-submit-spec = tie.close (tie.spec (λ c κs. search needs) pack-requires (λ c. search needs) (λ c. search needs) returns)

@@ -1,0 +1,89 @@
+-- What a submission decides by reading, as the code's enums have it: document 01's number and values for each case.
+use Prim.Native.Nat.{ℕ, _+_, _^_, _<_, _≤_}
+use mathlib.Core.Bool.{true}
+use mathlib.Core.Path.{_≡_}
+use mathlib.Core.List.{List}
+use lib.ListN.{length}
+use lib.Dec.{eqb}
+use Rattle.octets.specs.Choice.{choose}
+use Rattle.actions.specs.declared.Action.{Action}
+use Rattle.actions.specs.declared.Checked.{Checked}
+use Rattle.actions.specs.declared.Checked.the-variants as checked
+use Rattle.actions.specs.Actions.{writesLine}
+use Rattle.actions.specs.Statuses.{nextStatus}
+use Rattle.rules.specs.declared.Judged.{Judged}
+use Rattle.rules.specs.declared.Judged.the-variants as judged
+use Rattle.rules.specs.Findings.{firstBroken}
+use Rattle.ledger.specs.Layout.{u32, utiSize, rowStart, lineSize, lastIdentifier}
+use Rattle.ledger.specs.Header.{rowsInUse, nextIdentifier, capsIn, areCaps}
+use Rattle.ledger.specs.Rows.{placeOf, swapStatus, swapIdentifier}
+use Rattle.submission.specs.Opening.{Limits}
+use Rattle.submission.specs.Submission.{swapOf, actionIn, hasWrongRow, swapRules, verdictOn, placeFor}
+use Rattle.repository.specs.declared.answer.Answer.{Answer}
+use Rattle.repository.specs.declared.swap.Swap.{Swap}
+use Rattle.repository.specs.declared.swap.SwapCheck.{SwapCheck}
+use Rattle.repository.specs.declared.swap.SwapCheck.the-variants as found
+use Rattle.repository.specs.declared.decide.Step.{Step}
+use Rattle.repository.specs.declared.decide.Decision.{Decision}
+use Rattle.repository.specs.declared.decide.Decision.the-variants.{Refused, Value}
+use Rattle.repository.specs.Answers.{answerOf, refusalAnswer}
+
+-- ---- the swap
+
+-- what the ledger has of a swap
+abbrev pub swapIn : List ℕ → List ℕ → Swap
+swapIn l u = record { place = placeOf l u; status = swapStatus l u; identifier = swapIdentifier l u }
+
+-- a fault is 14
+unfoldable pub checkedSwap : List ℕ → List ℕ → SwapCheck
+checkedSwap l u = choose (hasWrongRow l u) found.Fault (found.Value (swapIn l u))
+
+-- ---- the decision
+
+-- what an accepted message goes on with
+abbrev pub stepFor : Action → List ℕ → List ℕ → Step
+stepFor a l m =
+    record {
+      action = a;
+      place = placeOf l (swapOf m);
+      status = nextStatus a (swapStatus l (swapOf m));
+      previous = swapIdentifier l (swapOf m);
+      rows = rowsInUse l;
+      next = nextIdentifier l;
+      caps = capsIn l;
+    }
+
+-- a refusal has verdict and element
+abbrev pub decided : ℕ × ℕ → Checked → List ℕ → List ℕ → Decision
+decided v (checked.Fault code) l m = Refused (v .0) (v .1)
+decided v (checked.Value a) l m = choose (eqb (v .0) 0) (Value (stepFor a l m)) (Refused (v .0) (v .1))
+
+unfoldable pub decision : Limits → List ℕ → List ℕ → List ℕ → Decision
+decision limits l t m = decided (verdictOn limits l t m) (actionIn m) l m
+
+-- what is left to decide, by rules 14 to 18, where no earlier rule is broken
+unfoldable pub afterMessage : Action → List ℕ → List ℕ → Decision
+afterMessage a l m = decided (firstBroken (swapRules a l m)) (checked.Value a) l m
+
+-- a refusal under the rules of the message alone
+abbrev pub refusedAs : Judged → Decision
+refusedAs (judged.Refused v e) = Refused v e
+refusedAs (judged.Value a) = Refused 0 0
+
+-- what a decision answers: the identifier is 0 under every refusal and where no line is written
+abbrev pub decisionAnswer : Decision → Answer
+decisionAnswer (Refused v e) = refusalAnswer v e
+decisionAnswer (Value s) = answerOf 0 0 0 (choose (writesLine (s .action)) (s .next) 0)
+
+-- ---- what the writes of a step need, so that they cannot fail
+
+pub record Fitting (l t m : List ℕ) (s : Step) : Type 0 where
+  pub step : s ≡ stepFor (s .action) l m
+  pub tape : lineSize ≤ length t
+  pub uti : length (swapOf m) ≤ utiSize
+  -- a new swap's place is the one behind the rows in use
+  pub place : placeFor (s .action) l m ≡ s .place
+  pub row : rowStart (s .place + 1) ≤ length l
+  pub rows : s .rows < 256 ^ u32
+  pub next : s .next ≤ lastIdentifier
+  pub caps : areCaps (s .caps) ≡ true

@@ -1,0 +1,75 @@
+// What an accepted message writes. It cannot fail.
+ghost use Prim.Native.Nat.{_+_, _≤_};
+ghost use mathlib.Core.Bool.{true};
+ghost use mathlib.Core.Path.{_≡_};
+ghost use lib.ListN.{length};
+ghost use Rattle.octets.specs.Choice.{choose};
+ghost use Rattle.octets.specs.Part.{splice};
+ghost use Rattle.actions.specs.Actions.{isFull, writesLine};
+ghost use Rattle.terms.specs.Terms.{termsSize};
+ghost use Rattle.ledger.specs.Layout.{rowStart, lineSize};
+ghost use Rattle.ledger.specs.Header.{areCaps};
+ghost use Rattle.ledger.specs.Rows.{rowAt, storedTerms};
+ghost use Rattle.ledger.specs.Line.{line};
+ghost use Rattle.submission.specs.Submission.{maskedTerms, ledgerFor, lineFor};
+ghost use Rattle.repository.specs.Decision.{Fitting};
+use crate::decide::Step;
+use actions::Action;
+use actions::is_full;
+use actions::writes_line;
+use elements::ASSET_CLASS;
+use elements::UTI;
+use ledger::Caps;
+use ledger::cap_for;
+use ledger::store_row;
+use ledger::terms_at;
+use ledger::update_header;
+use ledger::write_line;
+use message::element;
+use octets::copy;
+use terms::SIZE;
+use terms::write_terms;
+
+// The masked terms of a full message; those that the swap's row has for any other.
+fn collect_terms(dst: &mut [u8], l: &[u8], place: usize, a: Action, caps: Caps, m: &[u8])
+    requires { ⌜ (length (now dst) ≡ termsSize) × (rowStart (place + 1) ≤ length (now l)) × (areCaps caps ≡ true) ⌝ }
+    ensures { λ _. ⌜ now (dst .exit) ≡ choose (isFull a) (maskedTerms caps (now (m .entry))) (storedTerms (rowAt (now (l .entry)) place)) ⌝ }
+{
+    if is_full(a) {
+        write_terms(dst, m, cap_for(caps, element(m, ASSET_CLASS)));
+        return;
+    }
+    copy(dst, terms_at(l, place));
+}
+
+// Writes the line where one is due.
+fn publish(tape: &mut [u8], a: Action, identifier: u64, previous: u64, m: &[u8], terms: &[u8])
+    requires { ⌜ (lineSize ≤ length (now tape)) × (length (now terms) ≡ termsSize) ⌝ }
+    ensures { λ _. ⌜ now (tape .exit) ≡ choose (writesLine a) (splice (now (tape .entry)) 0 (line a identifier previous (now (m .entry)) (now (terms .entry)))) (now (tape .entry)) ⌝ }
+{
+    if writes_line(a) {
+        write_line(tape, a, identifier, previous, m, terms);
+    }
+}
+
+// Writes the line, the row and the header's two numbers.
+pub fn apply(l: &mut [u8], tape: &mut [u8], m: &[u8], step: Step)
+    requires { ⌜ Fitting (now l) (now tape) (now m) step ⌝ }
+    ensures { λ _. ⌜ now (l .exit) ≡ ledgerFor (step .action) (now (l .entry)) (now (m .entry)) ⌝ }
+    ensures { λ _. ⌜ now (tape .exit) ≡ choose (writesLine (step .action)) (splice (now (tape .entry)) 0 (lineFor (step .action) (now (l .entry)) (now (m .entry)))) (now (tape .entry)) ⌝ }
+{
+    let a = step.action;
+    let mut terms = [b' '; SIZE];
+    collect_terms(&mut terms, l, step.place, a, step.caps, m);
+    publish(tape, a, step.next, step.previous, m, &terms);
+    store_row(
+        l,
+        step.place,
+        a,
+        step.status,
+        element(m, UTI),
+        step.next,
+        &terms,
+    );
+    update_header(l, a, step.rows, step.next);
+}

@@ -1,0 +1,70 @@
+// The operations of the core: open a ledger, submit a message, ask the status of a swap. A C host reaches them through include/sdr.h.
+mod answer;
+mod apply;
+mod decide;
+mod operations;
+mod swap;
+mod verdicts;
+
+ghost use mathlib.Core.Path.{_≡_};
+ghost use Rattle.submission.specs.Opening.{documentLimits, opened};
+ghost use Rattle.submission.specs.Submission.{submitted};
+ghost use Rattle.submission.specs.Status.{asked};
+ghost use Rattle.repository.specs.Answers.{submissionAnswer, questionAnswer, packed, answerIn};
+ghost use Rattle.repository.specs.Demands.{Opening-demands, Submission-demands, Question-demands};
+use answer::pack;
+use ledger::Caps;
+use operations::open;
+use operations::status;
+use operations::submit;
+
+// Document 01's limits: the longest message in bytes, and the largest capacity in rows.
+const LONGEST_MESSAGE: usize = 2_048;
+
+const LARGEST_CAPACITY: u32 = 100_000;
+
+// Opens a ledger with the caps of the five asset classes; answers the verdict.
+#[no_mangle]
+pub extern "C" fn sdr_open(
+    ledger: &mut [u8],
+    cap_cr: u64,
+    cap_ir: u64,
+    cap_fx: u64,
+    cap_eq: u64,
+    cap_co: u64,
+) -> u32
+    ensures { λ r. ⌜ r ≡ opened documentLimits (record { cr = «cap_cr»; ir = «cap_ir»; fx = «cap_fx»; eq = «cap_eq»; co = «cap_co» }) (now (ledger .entry)) .verdict ⌝ }
+    ensures { λ _. ⌜ now (ledger .exit) ≡ opened documentLimits (record { cr = «cap_cr»; ir = «cap_ir»; fx = «cap_fx»; eq = «cap_eq»; co = «cap_co» }) (now (ledger .entry)) .ledger ⌝ }
+    ensures { λ _. ⌜ Opening-demands ⌝ }
+{
+    let caps = Caps {
+        cr: cap_cr,
+        ir: cap_ir,
+        fx: cap_fx,
+        eq: cap_eq,
+        co: cap_co,
+    };
+    open(ledger, caps, LARGEST_CAPACITY) as u32
+}
+
+// Submits a message; answers verdict, element and the identifier of its line in one number.
+#[no_mangle]
+pub extern "C" fn sdr_submit(ledger: &mut [u8], tape: &mut [u8], message: &[u8]) -> u64
+    ensures { λ r. ⌜ answerIn r ≡ submissionAnswer (submitted documentLimits (now (ledger .entry)) (now (tape .entry)) (now (message .entry))) ⌝ }
+    ensures { λ _. ⌜ now (ledger .exit) ≡ submitted documentLimits (now (ledger .entry)) (now (tape .entry)) (now (message .entry)) .ledger ⌝ }
+    ensures { λ _. ⌜ now (tape .exit) ≡ submitted documentLimits (now (ledger .entry)) (now (tape .entry)) (now (message .entry)) .tape ⌝ }
+    ensures { λ _. ⌜ Submission-demands ⌝ }
+{
+    let a = submit(ledger, tape, message, LONGEST_MESSAGE, LARGEST_CAPACITY);
+    pack(a.verdict, a.element, a.status, a.identifier)
+}
+
+// Asks the status of a swap; answers verdict, element, status and last identifier in one number.
+#[no_mangle]
+pub extern "C" fn sdr_status(ledger: &[u8], uti: &[u8]) -> u64
+    ensures { λ r. ⌜ answerIn r ≡ questionAnswer (asked documentLimits (now (ledger .entry)) (now (uti .entry))) ⌝ }
+    ensures { λ _. ⌜ Question-demands ⌝ }
+{
+    let a = status(ledger, uti, LARGEST_CAPACITY);
+    pack(a.verdict, a.element, a.status, a.identifier)
+}

@@ -1,0 +1,109 @@
+// The three operations, with the limits as parameters. Reading decides, then writing cannot fail.
+ghost use Prim.Native.Nat.{ℕ};
+ghost use mathlib.Core.Path.{_≡_};
+ghost use Rattle.submission.specs.Opening.{opened};
+ghost use Rattle.repository.specs.Answers.{limitsOf, submissionAnswer, questionAnswer};
+ghost use Rattle.octets.specs.Choice.{choose};
+ghost use Rattle.actions.specs.Actions.{writesLine};
+ghost use Rattle.submission.specs.Submission.{submitted};
+ghost use Rattle.repository.specs.Decision.{decisionAnswer};
+ghost use Rattle.submission.specs.Status.{asked};
+use crate::answer::Answer;
+use crate::answer::refusal;
+use crate::apply::apply;
+use crate::decide::Decision;
+use crate::decide::decide;
+use crate::swap::SwapCheck;
+use crate::swap::find_swap;
+use crate::verdicts::CAP_WRONG;
+use crate::verdicts::LEDGER_SHORT;
+use crate::verdicts::LEDGER_WRONG;
+use crate::verdicts::ROW_WRONG;
+use actions::Action;
+use actions::writes_line;
+use elements::UTI;
+use elements::has_form;
+use ledger::Caps;
+use ledger::HeaderCheck;
+use ledger::SHORTEST_LEDGER;
+use ledger::are_caps;
+use ledger::capacity_for;
+use ledger::read_header;
+use ledger::write_header;
+use rules::FORM_BROKEN;
+
+// Writes the header of a new ledger and answers 0, or answers the verdict and writes nothing.
+pub fn open(l: &mut [u8], caps: Caps, largest: u32) -> u8
+    ensures { λ r. ⌜ ((longest : ℕ) → r ≡ opened (limitsOf longest largest) caps (now (l .entry)) .verdict) ⌝ }
+    ensures { λ _. ⌜ ((longest : ℕ) → now (l .exit) ≡ opened (limitsOf longest largest) caps (now (l .entry)) .ledger) ⌝ }
+{
+    let n = l.len();
+    if n < SHORTEST_LEDGER {
+        return LEDGER_SHORT;
+    }
+    if !are_caps(caps) {
+        return CAP_WRONG;
+    }
+    write_header(l, caps, capacity_for(n, largest));
+    0
+}
+
+// The identifier that the line takes; 0 where no line is written.
+fn line_identifier(a: Action, next: u64) -> u64
+    ensures { λ r. ⌜ r ≡ choose (writesLine a) next 0 ⌝ }
+{
+    if writes_line(a) { next } else { 0 }
+}
+
+// What a decision answers.
+fn answer_of(d: Decision) -> Answer
+    ensures { λ r. ⌜ r ≡ decisionAnswer d ⌝ }
+{
+    match d {
+        Decision::Refused(verdict, element) => refusal(verdict, element),
+        Decision::Value(step) => {
+            let a = step.action;
+            Answer {
+                verdict: 0,
+                element: 0,
+                status: 0,
+                identifier: line_identifier(a, step.next),
+            }
+        }
+    }
+}
+
+// Judges a message; changes ledger and tape buffer where it is accepted.
+pub fn submit(l: &mut [u8], tape: &mut [u8], m: &[u8], longest: usize, largest: u32) -> Answer
+    ensures { λ r. ⌜ r ≡ submissionAnswer (submitted (limitsOf longest largest) (now (l .entry)) (now (tape .entry)) (now (m .entry))) ⌝ }
+    ensures { λ _. ⌜ now (l .exit) ≡ submitted (limitsOf longest largest) (now (l .entry)) (now (tape .entry)) (now (m .entry)) .ledger ⌝ }
+    ensures { λ _. ⌜ now (tape .exit) ≡ submitted (limitsOf longest largest) (now (l .entry)) (now (tape .entry)) (now (m .entry)) .tape ⌝ }
+{
+    let decision = decide(l, tape, m, longest, largest);
+    let Decision::Value(step) = decision else {
+        return answer_of(decision);
+    };
+    apply(l, tape, m, step);
+    answer_of(decision)
+}
+
+// The swap's status and last identifier.
+pub fn status(l: &[u8], uti: &[u8], largest: u32) -> Answer
+    ensures { λ r. ⌜ ((longest : ℕ) → r ≡ questionAnswer (asked (limitsOf longest largest) (now (l .entry)) (now (uti .entry)))) ⌝ }
+{
+    let HeaderCheck::Value(header) = read_header(l, largest) else {
+        return refusal(LEDGER_WRONG, 0);
+    };
+    if !has_form(UTI, uti) {
+        return refusal(FORM_BROKEN, UTI as u8);
+    }
+    let SwapCheck::Value(swap) = find_swap(l, header, uti) else {
+        return refusal(ROW_WRONG, 0);
+    };
+    Answer {
+        verdict: 0,
+        element: 0,
+        status: swap.status,
+        identifier: swap.identifier,
+    }
+}

@@ -1,0 +1,280 @@
+/*
+ * sdr.h: a swap data repository's validation core, for C and C++ hosts.
+ *
+ * The core judges messages about swaps. It keeps the swaps in a ledger and writes what the public may see of an accepted
+ * message as one line of text, the tape line. There are three operations:
+ *
+ *   sdr_open     makes a ledger without swaps in a buffer of yours
+ *   sdr_submit   judges one message; if it accepts, it changes the ledger and may write a tape line
+ *   sdr_status   tells how one swap stands
+ *
+ * All three work on bytes that you lend for the call. The core has no state of its own, allocates nothing, does no input or
+ * output and keeps no pointer. Any bytes get an answer, also broken messages and ledgers. A refusal changes no byte of the
+ * ledger or of the tape buffer. The same bytes always get the same answer and leave the same bytes.
+ *
+ * What you owe the core:
+ *   - Each pointer is valid for the length given with it. NULL is allowed exactly where the length is 0; that is an empty
+ *     buffer, which is judged like any other. No alignment is asked for.
+ *   - The buffers of a call do not overlap.
+ *   - The ledger of sdr_open, and the ledger and the tape buffer of sdr_submit, can be written.
+ *   - One call at a time per ledger. No other thread reads or writes the buffers of a call while it runs. Calls on different
+ *     ledgers, with different tape buffers, may run side by side.
+ *   - Between calls the ledger's bytes stay as the core left them, and the ledger is lent at the length it was opened with.
+ *     It may be stored and brought back elsewhere. A length that means another capacity is refused (SDR_LEDGER_WRONG);
+ *     other damage may go unnoticed.
+ *
+ * What is yours to do: signing, transport, the dissemination delay and the clock, storing ledger and tape, and copying each
+ * line out of the tape buffer before the next submission, which writes to the same place.
+ *
+ * The library is for x86-64 and needs nothing but the C library. This header needs C99 or C++11.
+ */
+#ifndef SDR_H
+#define SDR_H
+
+#include <stddef.h>
+#include <stdint.h>
+
+#ifdef __cplusplus
+extern "C" {
+#endif
+
+/* ---- Sizes, in bytes, and limits ---- */
+
+#define SDR_HEADER_SIZE 64 /* the ledger's header */
+#define SDR_ROW_SIZE 160   /* one swap in the ledger */
+
+/* The shortest ledger has room for one swap. */
+#define SDR_SHORTEST_LEDGER (SDR_HEADER_SIZE + SDR_ROW_SIZE)
+
+/* A ledger never holds more swaps than this; bytes of a longer buffer stay unused. */
+#define SDR_LARGEST_CAPACITY 100000
+
+/* The length of a ledger with room for so many swaps. */
+#define SDR_LEDGER_SIZE(rows) ((size_t)SDR_HEADER_SIZE + (size_t)SDR_ROW_SIZE * (size_t)(rows))
+
+/* A tape line, its newline included: the least that a tape buffer must have. There is no terminating zero. */
+#define SDR_LINE_SIZE 146
+
+/* A longer message is refused (SDR_LAYOUT_WRONG). */
+#define SDR_LONGEST_MESSAGE 2048
+
+/* The bounds of a cap, in units of the notional currency. */
+#define SDR_SMALLEST_CAP UINT64_C(1000)
+#define SDR_LARGEST_CAP UINT64_C(1000000000000000)
+
+/* A ledger whose next identifier has come to this writes no more lines (SDR_IDENTIFIERS_SPENT); this one is never given. */
+#define SDR_LAST_IDENTIFIER UINT64_C(1000000000000)
+
+/* ---- The message ----
+ *
+ * Numbers are little-endian, values are ASCII text without padding or terminating zero.
+ *
+ *   u16        n, how many elements the message has
+ *   n times    u16 element code, u16 offset of the element's value from the start of the message
+ *   values     one after the other, none of them empty
+ *
+ * Codes rise, and so do offsets. The first value follows the header, at 2 + 4 n; each value ends where the next one starts,
+ * the last one at the end of the message.
+ *
+ * "All" below means that every action needs the element; "full" that NEWT, MODI, CORR and REVI need it. TERM, EROR and PRTO
+ * take the elements 1 to 5 and no others.
+ *
+ * A date is YYYY-MM-DD, from the year 1900 on. A time is a date, T, hh:mm:ss and Z. A truth is True, False, true or false.
+ */
+
+#define SDR_ELEMENT_COUNT 25 /* the codes are 1 to 25 */
+
+enum sdr_element_code {
+    SDR_UTI = 1,                      /* all; 21 to 52 capitals or digits; names the swap */
+    SDR_ACTION_TYPE = 2,              /* all; NEWT, MODI, CORR, TERM, EROR, REVI or PRTO */
+    SDR_EVENT_TYPE = 3,               /* 4 capitals; goes with the action, as TRAD with NEWT; none with CORR, EROR, REVI */
+    SDR_EVENT_TIMESTAMP = 4,          /* all; time */
+    SDR_REPORTING_TIMESTAMP = 5,      /* all; time */
+    SDR_EXECUTION_TIMESTAMP = 6,      /* full; time */
+    SDR_EFFECTIVE_DATE = 7,           /* full; date */
+    SDR_EXPIRATION_DATE = 8,          /* full; date */
+    SDR_SETTLEMENT_DATE = 9,          /* full; date; the final contractual settlement */
+    SDR_CLEARED = 10,                 /* full; Y, N or I */
+    SDR_NON_STANDARDIZED = 11,        /* if 10 is N; truth */
+    SDR_BLOCK_ELECTION = 12,          /* full; truth */
+    SDR_LARGE_NOTIONAL_ELECTION = 13, /* full; truth */
+    SDR_ALLOCATION = 14,              /* full; POST, PREA or UNAL */
+    SDR_PACKAGE_INDICATOR = 15,       /* full; truth */
+    SDR_PACKAGE_IDENTIFIER = 16,      /* if 15 is true; 1 to 100 letters or digits */
+    SDR_PACKAGE_PRICE = 17,           /* if 15 is true; number, minus allowed, 18 digits, 13 after the point */
+    SDR_PRICE_NOTATION = 18,          /* if 15 is true; 1 or 3 */
+    SDR_PRICE_CURRENCY = 19,          /* if 15 is true and 18 is 1; 3 capitals */
+    SDR_NOTIONAL_AMOUNT = 20,         /* full; number, no minus, 25 digits, 5 after the point */
+    SDR_NOTIONAL_CURRENCY = 21,       /* full; 3 capitals */
+    SDR_SETTLEMENT_LOCATION = 22,     /* optional; 2 capitals */
+    SDR_COUNTERPARTY_1 = 23,          /* full; LEI with right check digits */
+    SDR_COUNTERPARTY_2 = 24,          /* full; LEI with right check digits */
+    SDR_ASSET_CLASS = 25              /* full; CR, IR, FX, EQ or CO; says which cap applies */
+};
+
+/* ---- Verdicts ----
+ *
+ * Each operation judges its rules in the order of these numbers and answers the first one that is broken. The element is 0
+ * unless a comment here says otherwise.
+ */
+
+enum sdr_verdict_code {
+    /* any operation */
+    SDR_ACCEPTED = 0, /* done; for sdr_status: answered */
+
+    /* sdr_open */
+    SDR_LEDGER_SHORT = 1, /* the buffer is shorter than SDR_SHORTEST_LEDGER */
+    SDR_CAP_WRONG = 2,    /* a cap is out of bounds, or rounding it as an amount would change it */
+
+    /* sdr_submit and sdr_status */
+    SDR_LEDGER_WRONG = 3, /* the ledger is too short, or its header is none that fits this length: not opened, damaged,
+                             or lent at another length */
+
+    /* sdr_submit */
+    SDR_TAPE_SHORT = 4,           /* the tape buffer is shorter than SDR_LINE_SIZE; judged for PRTO too */
+    SDR_LAYOUT_WRONG = 5,         /* counts, codes or offsets of the message are wrong, or it is too long */
+    SDR_ACTION_WRONG = 6,         /* no action, or not one of the seven; small letters count as other letters.
+                                     Element: 2 */
+    SDR_ELEMENT_MISSING = 7,      /* an element that all messages or full ones need is missing. Element: the lowest such */
+    SDR_ELEMENT_NOT_TAKEN = 8,    /* TERM, EROR or PRTO with an element above 5. Element: the lowest such */
+    SDR_FORM_BROKEN = 9,          /* a value is not of its element's form, needed or not. Element: the lowest such.
+                                     sdr_status: the UTI is not of its form. Element: 1 */
+    SDR_NOT_A_PAIR = 10,          /* this event, or no event, does not go with this action */
+    SDR_CONDITIONAL_MISSING = 11, /* an element whose condition is met is missing. Element: the lowest such */
+    SDR_PRICE_TOO_LONG = 12,      /* a package's price with notation 3 has over 11 digits, or over 10 after the point */
+    SDR_DATES_DISORDERED = 13,    /* in a full message: expiration before effective date, settlement before expiration,
+                                     or reporting before execution */
+    SDR_ROW_WRONG = 14,           /* the swap's row in the ledger is damaged: its status or its identifier is none that can
+                                     be. sdr_status answers this too */
+    SDR_NOT_ADMITTED = 15,        /* the swap's status does not allow the action; see the statuses */
+    SDR_OTHER_TIME = 16,          /* MODI or REVI gives another execution time than the swap has */
+    SDR_LEDGER_FULL = 17,         /* NEWT, and every row is in use */
+    SDR_IDENTIFIERS_SPENT = 18    /* a line would be due, and no identifier is left */
+};
+
+/* ---- Statuses ----
+ *
+ * NEWT makes an unknown swap live. MODI and CORR leave the status as it is, TERM closes, EROR makes errored, REVI makes live
+ * again, PRTO makes ported.
+ */
+
+enum sdr_status_code {
+    SDR_UNKNOWN = 0, /* not in the ledger; admits NEWT */
+    SDR_LIVE = 1,    /* admits MODI, CORR, TERM, EROR, PRTO */
+    SDR_CLOSED = 2,  /* admits CORR, EROR, REVI */
+    SDR_ERRORED = 3, /* admits REVI */
+    SDR_PORTED = 4   /* admits nothing */
+};
+
+/* ---- Operations ---- */
+
+/*
+ * Opens a ledger over a buffer.
+ *
+ * Each asset class (CR, IR, FX, EQ, CO) has a cap, in units of the notional currency. The tape shows an amount above it as
+ * the cap and a plus sign. A cap lies between SDR_SMALLEST_CAP and SDR_LARGEST_CAP and is an amount that rounding leaves as
+ * it is: 250,000,000 is one, 251,000,000 is not.
+ *
+ * Answers SDR_ACCEPTED, SDR_LEDGER_SHORT or SDR_CAP_WRONG; the length is judged before the caps, and what the buffer holds
+ * is not looked at. If it accepts, it writes the first SDR_HEADER_SIZE bytes of the buffer and no others: the ledger then
+ * has no swaps, and 1 as its next identifier. So opening a ledger that is in use forgets its swaps.
+ */
+uint32_t sdr_open(uint8_t *ledger, size_t ledger_len, uint64_t cap_cr, uint64_t cap_ir, uint64_t cap_fx, uint64_t cap_eq,
+                  uint64_t cap_co);
+
+/*
+ * Judges one message and, if it accepts, does what the message says.
+ *
+ * Judged in this order: the ledger's header (3), the tape buffer's length (4), the message alone (5 to 13), the message
+ * against the swap's row (14 to 16), room in the ledger (17) and identifiers (18).
+ *
+ * The answer, to be read by the accessors below:
+ *
+ *   bits  0 to  7   verdict
+ *   bits  8 to 15   element named by the verdict, or 0
+ *   bits 16 to 23   0
+ *   bits 24 to 63   identifier of the line that was written; 0 if no line was written
+ *
+ * The identifier tells whether an accepted message wrote a line. PRTO writes none, and no byte of the tape buffer; any other
+ * action writes one line into the first SDR_LINE_SIZE bytes and leaves later ones as they are. Identifiers count the lines
+ * of a ledger from 1. In the ledger, acceptance changes the swap's row (NEWT: the next free one) and, in the header, the
+ * rows in use (NEWT alone) and the next identifier (with every line).
+ */
+uint64_t sdr_submit(uint8_t *ledger, size_t ledger_len, uint8_t *tape, size_t tape_len, const uint8_t *message,
+                    size_t message_len);
+
+/*
+ * Tells the status of the swap with this UTI. Writes nothing.
+ *
+ * Judged in this order: the ledger's header (SDR_LEDGER_WRONG), the form of the UTI (SDR_FORM_BROKEN, element 1), the swap's
+ * row (SDR_ROW_WRONG).
+ *
+ * The answer, to be read by the accessors below:
+ *
+ *   bits  0 to  7   verdict
+ *   bits  8 to 15   element named by the verdict, or 0
+ *   bits 16 to 23   status, one of enum sdr_status_code; 0 beside a refusal
+ *   bits 24 to 63   identifier of the swap's last line; 0 if the swap is unknown, and beside a refusal
+ *
+ * SDR_UNKNOWN means that the swap is unknown only if the verdict is SDR_ACCEPTED.
+ */
+uint64_t sdr_status(const uint8_t *ledger, size_t ledger_len, const uint8_t *uti, size_t uti_len);
+
+/* ---- Reading an answer ---- */
+
+/* The verdict, one of enum sdr_verdict_code. The answer of sdr_open can be passed too. */
+static inline unsigned sdr_verdict(uint64_t answer)
+{
+    return (unsigned)(answer & 0xff);
+}
+
+/* The element that the verdict names, one of enum sdr_element_code, or 0. */
+static inline unsigned sdr_element(uint64_t answer)
+{
+    return (unsigned)((answer >> 8) & 0xff);
+}
+
+/* The status, one of enum sdr_status_code; for answers of sdr_status. */
+static inline unsigned sdr_state(uint64_t answer)
+{
+    return (unsigned)((answer >> 16) & 0xff);
+}
+
+/* The identifier, or 0. */
+static inline uint64_t sdr_identifier(uint64_t answer)
+{
+    return answer >> 24;
+}
+
+/* Words for a verdict, to be printed or logged. */
+static inline const char *sdr_verdict_text(unsigned verdict)
+{
+    switch (verdict) {
+    case SDR_ACCEPTED: return "accepted";
+    case SDR_LEDGER_SHORT: return "ledger buffer too short";
+    case SDR_CAP_WRONG: return "cap out of bounds or not a rounded amount";
+    case SDR_LEDGER_WRONG: return "not a ledger of this length";
+    case SDR_TAPE_SHORT: return "tape buffer too short";
+    case SDR_LAYOUT_WRONG: return "message layout wrong";
+    case SDR_ACTION_WRONG: return "action missing or unknown";
+    case SDR_ELEMENT_MISSING: return "element missing";
+    case SDR_ELEMENT_NOT_TAKEN: return "element not taken by this action";
+    case SDR_FORM_BROKEN: return "value breaks its form";
+    case SDR_NOT_A_PAIR: return "event does not go with action";
+    case SDR_CONDITIONAL_MISSING: return "conditional element missing";
+    case SDR_PRICE_TOO_LONG: return "price too long for its notation";
+    case SDR_DATES_DISORDERED: return "dates or times out of order";
+    case SDR_ROW_WRONG: return "row of the swap damaged";
+    case SDR_NOT_ADMITTED: return "action not admitted by the swap's status";
+    case SDR_OTHER_TIME: return "execution time differs from the swap's";
+    case SDR_LEDGER_FULL: return "ledger full";
+    case SDR_IDENTIFIERS_SPENT: return "identifiers spent";
+    default: return "no such verdict";
+    }
+}
+
+#ifdef __cplusplus
+}
+#endif
+
+#endif /* SDR_H */
