@@ -261,3 +261,121 @@ fn difference(first: &[u8], second: &[u8]) -> Option<(usize, u8, u8)> {
     let mut differing = pairs.filter(|(_, (a, b))| a != b);
     differing.next().map(|(at, (a, b))| (at, *a, *b))
 }
+
+#[cfg(test)]
+mod tests {
+    use super::{Answer, Compared, Judge};
+
+    /// A judge that does to ledger and tape buffer what it is told.
+    struct Told(fn(&mut [u8], &mut [u8]) -> Answer);
+
+    impl Judge for Told {
+        fn name(&self) -> &'static str {
+            "told"
+        }
+
+        fn open(&self, ledger: &mut [u8], _: &[u64; 5]) -> Answer {
+            self.0(ledger, &mut [0; 200])
+        }
+
+        fn submit(&self, ledger: &mut [u8], tape: &mut [u8], _: &[u8]) -> Answer {
+            self.0(ledger, tape)
+        }
+
+        fn status(&self, ledger: &[u8], _: &[u8]) -> Answer {
+            self.0(&mut ledger.to_vec(), &mut [0; 200])
+        }
+    }
+
+    fn answer(verdict: u8, element: u8, status: u8, identifier: u64) -> Answer {
+        Answer {
+            verdict,
+            element,
+            status,
+            identifier,
+        }
+    }
+
+    static SILENT: Told = Told(|_, _| Answer::default());
+
+    static OTHERS: [(Told, &str); 7] = [
+        (Told(|_, _| answer(15, 0, 0, 0)), "the answers differ"),
+        (Told(|_, _| answer(0, 3, 0, 0)), "the answers differ"),
+        (Told(|_, _| answer(0, 0, 1, 0)), "the answers differ"),
+        (Told(|_, _| answer(0, 0, 0, 1)), "the answers differ"),
+        (
+            Told(|ledger, _| {
+                ledger[299] = 1;
+                Answer::default()
+            }),
+            "the ledgers differ: byte 299 (row 1 byte 75) is 0 and 1",
+        ),
+        (
+            Told(|_, tape| {
+                tape[145] = 1;
+                Answer::default()
+            }),
+            "the tape buffers differ: byte 145 is 0 and 1",
+        ),
+        (
+            Told(|_, tape| {
+                tape[146] = 1;
+                Answer::default()
+            }),
+            "told: bytes behind the line changed",
+        ),
+    ];
+
+    static BOTH_WRONG: [(Told, &str); 5] = [
+        (
+            Told(|ledger, _| {
+                ledger[0] += 1;
+                answer(15, 0, 0, 0)
+            }),
+            "a refusal wrote",
+        ),
+        (
+            Told(|_, tape| {
+                tape[0] += 1;
+                answer(15, 0, 0, 0)
+            }),
+            "a refusal wrote",
+        ),
+        (
+            Told(|_, _| answer(17, 0, 0, 1)),
+            "a refusal answers a status or an identifier",
+        ),
+        (
+            Told(|_, _| answer(9, 0, 0, 0)),
+            "an element is named wrongly",
+        ),
+        (
+            Told(|_, _| answer(15, 1, 0, 0)),
+            "an element is named wrongly",
+        ),
+    ];
+
+    fn fault_between(first: &'static Told, second: &'static Told) -> String {
+        let mut compared = Compared::between(&[first, second]);
+        compared.set_ledger(&[0; 300]);
+        compared.set_tape(&[0; 150]);
+        let result = compared.try_submit(b"message");
+        result.expect_err("the judges are wrong").to_string()
+    }
+
+    #[test]
+    fn each_difference_is_told() {
+        for (other, text) in &OTHERS {
+            let fault = fault_between(&SILENT, other);
+            assert!(fault.starts_with(text), "{fault}");
+        }
+    }
+
+    #[test]
+    fn what_both_do_wrong_is_told() {
+        for (wrong, text) in &BOTH_WRONG {
+            let fault = fault_between(wrong, wrong);
+            assert!(fault.starts_with(text), "{fault}");
+        }
+    }
+}

@@ -184,7 +184,7 @@ fn a_ledger_of_400_rows_fills_up() {
     ledger.check_ledger();
     println!("400 rows: {}", ledger.compared.tally);
     assert_eq!(ledger.model.rows.len(), 400);
-    assert!(ledger.compared.tally.verdict(sdr::FULL) > 0);
+    assert!(ledger.compared.tally.verdict(sdr::LEDGER_FULL) > 0);
 }
 
 #[test]
@@ -216,7 +216,7 @@ fn identifiers_run_out() {
     ledger.check_ledger();
     println!("spent identifiers: {}", ledger.compared.tally);
     assert_eq!(ledger.model.header.next, HIGHEST_NEXT);
-    assert!(ledger.compared.tally.verdict(sdr::SPENT) > 0);
+    assert!(ledger.compared.tally.verdict(sdr::IDENTIFIERS_SPENT) > 0);
     // Nothing but PRTO is accepted then.
     let ported = ledger
         .model

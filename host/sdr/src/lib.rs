@@ -8,17 +8,23 @@
 //! Signing, transport, dissemination delay and clock are the host's.
 //!
 //! ```
-//! let mut ledger = vec![0; 64 + 400 * 160];
+//! let mut ledger = vec![0; sdr::ledger_size(400)];
 //! assert_eq!(sdr::open(&mut ledger, &[250_000_000; 5]).verdict, sdr::ACCEPTED);
 //!
 //! let mut tape = [0; sdr::LINE_SIZE];
 //! let answer = sdr::submit(&mut ledger, &mut tape, &[0, 0]);
-//! assert_eq!((answer.verdict, answer.element), (sdr::ACTION, 2));
+//! assert_eq!((answer.verdict, answer.element), (sdr::ACTION_WRONG, 2));
 //! ```
 #![deny(missing_docs)]
 
+/// The ledger's header.
+pub const HEADER_SIZE: usize = 64;
+/// One swap in the ledger.
+pub const ROW_SIZE: usize = 160;
 /// The shortest ledger: a header and one row.
-pub const SHORTEST_LEDGER: usize = 224;
+pub const SHORTEST_LEDGER: usize = HEADER_SIZE + ROW_SIZE;
+/// The most swaps that a ledger holds, however long it is.
+pub const LARGEST_CAPACITY: usize = 100_000;
 /// A line of the tape; the shortest tape buffer.
 pub const LINE_SIZE: usize = 146;
 /// The longest message.
@@ -27,45 +33,45 @@ pub const LONGEST_MESSAGE: usize = 2048;
 /// Accepted.
 pub const ACCEPTED: u8 = 0;
 /// Opening: the ledger buffer is shorter than [`SHORTEST_LEDGER`].
-pub const SHORT_LEDGER: u8 = 1;
+pub const LEDGER_SHORT: u8 = 1;
 /// Opening: a cap is outside its range or is not its own rounded amount.
-pub const CAP: u8 = 2;
+pub const CAP_WRONG: u8 = 2;
 /// The ledger is shorter than [`SHORTEST_LEDGER`], or its header breaks the
-/// layout, has more rows than capacity or has a cap that [`CAP`] refuses.
-pub const LEDGER: u8 = 3;
+/// layout, has more rows than capacity or has a cap that [`CAP_WRONG`] refuses.
+pub const LEDGER_WRONG: u8 = 3;
 /// The tape buffer is shorter than [`LINE_SIZE`].
-pub const TAPE: u8 = 4;
+pub const TAPE_SHORT: u8 = 4;
 /// The message's layout is wrong.
-pub const LAYOUT: u8 = 5;
+pub const LAYOUT_WRONG: u8 = 5;
 /// The action is missing or not one of the seven; the element is 2.
-pub const ACTION: u8 = 6;
+pub const ACTION_WRONG: u8 = 6;
 /// An element needed by all, or by a full action, is missing; the element is
 /// the lowest such code.
-pub const MISSING: u8 = 7;
+pub const ELEMENT_MISSING: u8 = 7;
 /// TERM, EROR or PRTO has an element above 5; the element is the lowest such
 /// code.
-pub const SURPLUS: u8 = 8;
+pub const ELEMENT_NOT_TAKEN: u8 = 8;
 /// A value breaks its form; the element is the lowest such code.
-pub const FORM: u8 = 9;
+pub const FORM_BROKEN: u8 = 9;
 /// Action and event, or its absence, are not a pair of the matrix.
-pub const PAIR: u8 = 10;
+pub const NOT_A_PAIR: u8 = 10;
 /// A conditional element is missing; the element is the lowest such code.
-pub const CONDITIONAL: u8 = 11;
+pub const CONDITIONAL_MISSING: u8 = 11;
 /// The price of a package with notation 3 is too long.
-pub const LONG_PRICE: u8 = 12;
+pub const PRICE_TOO_LONG: u8 = 12;
 /// In a full message expiration is before effective, settlement before
 /// expiration, or reporting before execution.
-pub const ORDER: u8 = 13;
+pub const DATES_DISORDERED: u8 = 13;
 /// The swap's row has a status or an identifier that no row can have.
-pub const ROW: u8 = 14;
+pub const ROW_WRONG: u8 = 14;
 /// The swap's status does not admit the action.
-pub const STATUS: u8 = 15;
+pub const NOT_ADMITTED: u8 = 15;
 /// MODI or REVI has another execution timestamp than the row.
-pub const EXECUTION: u8 = 16;
+pub const OTHER_TIME: u8 = 16;
 /// NEWT finds rows in use equal to capacity.
-pub const FULL: u8 = 17;
+pub const LEDGER_FULL: u8 = 17;
 /// A line is due and the identifiers are spent.
-pub const SPENT: u8 = 18;
+pub const IDENTIFIERS_SPENT: u8 = 18;
 
 /// The status of a swap that the ledger does not know.
 pub const UNKNOWN: u8 = 0;
@@ -77,6 +83,11 @@ pub const CLOSED: u8 = 2;
 pub const ERRORED: u8 = 3;
 /// The status of a ported swap.
 pub const PORTED: u8 = 4;
+
+/// The length of a ledger with room for so many swaps.
+pub const fn ledger_size(rows: usize) -> usize {
+    HEADER_SIZE + ROW_SIZE * rows
+}
 
 /// What an operation answers.
 #[derive(Clone, Copy, Debug, PartialEq, Eq, Default)]
@@ -128,8 +139,8 @@ extern "C" {
 }
 
 /// Opens a ledger over the buffer, with the caps in the order CR, IR, FX, EQ,
-/// CO. Only the verdict of the answer is used: [`ACCEPTED`], [`SHORT_LEDGER`]
-/// or [`CAP`]. Opening writes the header and no other byte; a refused opening
+/// CO. Only the verdict of the answer is used: [`ACCEPTED`], [`LEDGER_SHORT`]
+/// or [`CAP_WRONG`]. Opening writes the header and no other byte; a refused opening
 /// writes nothing.
 pub fn open(ledger: &mut [u8], caps: &[u64; 5]) -> Answer {
     let [cr, ir, fx, eq, co] = *caps;

@@ -38,12 +38,18 @@ fn empty_slices_are_short_buffers() {
     let mut ledger = opened();
     let before = ledger.clone();
     let mut tape = [7; 146];
-    assert_eq!(sdr::open(&mut [], &CAPS), only(sdr::SHORT_LEDGER));
-    assert_eq!(sdr::open(&mut [], &[0; 5]), only(sdr::SHORT_LEDGER));
-    assert_eq!(sdr::submit(&mut [], &mut [], &[]), only(sdr::LEDGER));
-    assert_eq!(sdr::submit(&mut ledger, &mut [], &[]), only(sdr::TAPE));
-    assert_eq!(sdr::submit(&mut ledger, &mut tape, &[]), only(sdr::LAYOUT));
-    assert_eq!(sdr::status(&[], &[]), only(sdr::LEDGER));
+    assert_eq!(sdr::open(&mut [], &CAPS), only(sdr::LEDGER_SHORT));
+    assert_eq!(sdr::open(&mut [], &[0; 5]), only(sdr::LEDGER_SHORT));
+    assert_eq!(sdr::submit(&mut [], &mut [], &[]), only(sdr::LEDGER_WRONG));
+    assert_eq!(
+        sdr::submit(&mut ledger, &mut [], &[]),
+        only(sdr::TAPE_SHORT)
+    );
+    assert_eq!(
+        sdr::submit(&mut ledger, &mut tape, &[]),
+        only(sdr::LAYOUT_WRONG)
+    );
+    assert_eq!(sdr::status(&[], &[]), only(sdr::LEDGER_WRONG));
     assert_eq!(sdr::status(&ledger, &[]), element_1());
     assert_eq!(ledger, before);
     assert_eq!(tape, [7; 146]);
@@ -51,7 +57,7 @@ fn empty_slices_are_short_buffers() {
 
 fn element_1() -> sdr::Answer {
     sdr::Answer {
-        verdict: sdr::FORM,
+        verdict: sdr::FORM_BROKEN,
         element: 1,
         ..sdr::Answer::default()
     }
