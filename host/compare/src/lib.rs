@@ -23,11 +23,11 @@ pub mod tally;
 pub mod terms;
 pub mod values;
 
-/// How many submissions a random part makes: the environment variable
-/// SDR_SUBMISSIONS where it is set, else the default.
+/// How many submissions a random part makes: as many as the environment
+/// variable SDR_SUBMISSIONS says, and at least the default.
 pub fn submissions(default: u64) -> u64 {
     match std::env::var("SDR_SUBMISSIONS") {
-        Ok(text) => text.parse().expect("SDR_SUBMISSIONS is a number"),
+        Ok(text) => default.max(text.parse().expect("SDR_SUBMISSIONS is a number")),
         Err(_) => default,
     }
 }
