@@ -1,0 +1,171 @@
+//! Life cycles of swaps, and a model that says what each step has to do.
+
+use crate::layout::{Header, Row, HIGHEST_NEXT, LINE_SIZE};
+use crate::matrix::{self, is_full, ACTIONS, EVENTS};
+use crate::message::Message;
+use crate::random::Random;
+use crate::sound;
+use crate::terms::{line_of, terms_of};
+use crate::values;
+
+/// What a submission has to answer and to write.
+pub struct Due {
+    pub verdict: u8,
+    pub identifier: u64,
+    pub line: Option<[u8; LINE_SIZE]>,
+}
+
+/// What the ledger has to say.
+pub struct Model {
+    pub header: Header,
+    pub rows: Vec<Row>,
+}
+
+impl Model {
+    /// The ledger of a length after opening.
+    pub fn opened(length: usize, caps: [u64; 5]) -> Self {
+        Model {
+            header: Header::opened(length, caps),
+            rows: Vec::new(),
+        }
+    }
+
+    /// The swap's row.
+    pub fn row(&self, uti: &[u8]) -> Option<usize> {
+        self.rows.iter().position(|row| row.uti() == uti)
+    }
+
+    /// The swap's status.
+    pub fn status(&self, uti: &[u8]) -> u8 {
+        self.row(uti).map_or(0, |row| self.rows[row].status)
+    }
+
+    /// The swap's last identifier.
+    pub fn identifier(&self, uti: &[u8]) -> u64 {
+        self.row(uti).map_or(0, |row| self.rows[row].identifier)
+    }
+
+    /// Takes a step with a tape buffer of a length and a message that breaks
+    /// none of the rules 5 to 9 and 11 to 13.
+    pub fn submit(&mut self, message: &Message, tape_length: usize) -> Due {
+        let verdict = self.verdict(message, tape_length);
+        if verdict != 0 {
+            return Due {
+                verdict,
+                identifier: 0,
+                line: None,
+            };
+        }
+        self.accept(message)
+    }
+
+    fn verdict(&self, message: &Message, tape_length: usize) -> u8 {
+        let action = text(message.value(2));
+        let event = message.get(3).map(text);
+        let uti = message.value(1);
+        let row = self.row(uti).map(|row| &self.rows[row]);
+        let repeats = matches!(action, "MODI" | "REVI");
+        if tape_length < LINE_SIZE {
+            4
+        } else if !matrix::is_pair(action, event) {
+            10
+        } else if matrix::step(action, self.status(uti)).is_none() {
+            15
+        } else if repeats && row.is_some_and(|row| row.terms[..20] != *message.value(6)) {
+            16
+        } else if action == "NEWT" && self.header.rows == self.header.capacity {
+            17
+        } else if matrix::writes_line(action) && self.header.next == HIGHEST_NEXT {
+            18
+        } else {
+            0
+        }
+    }
+
+    fn accept(&mut self, message: &Message) -> Due {
+        let action = text(message.value(2));
+        let uti = message.value(1);
+        let known = self.row(uti);
+        let previous = known.map(|row| self.rows[row].identifier);
+        let row = known.unwrap_or_else(|| self.add_row(uti));
+        let next = self.header.next;
+        let row = &mut self.rows[row];
+        if known.is_some() {
+            row.status = matrix::step(action, row.status).expect("the step was admitted");
+        }
+        if is_full(action) {
+            row.terms = terms_of(message, &self.header.caps);
+        }
+        if !matrix::writes_line(action) {
+            return Due {
+                verdict: 0,
+                identifier: 0,
+                line: None,
+            };
+        }
+        row.identifier = next;
+        self.header.next += 1;
+        Due {
+            verdict: 0,
+            identifier: next,
+            line: Some(line_of(message, next, previous, &row.terms)),
+        }
+    }
+
+    fn add_row(&mut self, uti: &[u8]) -> usize {
+        self.rows.push(Row::new(uti, 0, [b' '; 93]));
+        self.header.rows += 1;
+        self.rows.len() - 1
+    }
+}
+
+fn text(value: &[u8]) -> &str {
+    std::str::from_utf8(value).expect("actions and events are ASCII")
+}
+
+/// A message for the next step: most often one that the swap's status admits.
+pub fn next_message(random: &mut Random, model: &Model, utis: &[Vec<u8>]) -> Message {
+    let uti = random.pick(utis);
+    let status = model.status(uti);
+    let action = next_action(random, status);
+    let mut message = sound::message(random, action, uti);
+    if let Some(row) = model.row(uti) {
+        repeat_execution(random, &mut message, action, &model.rows[row]);
+    }
+    if random.once_in(12) {
+        set_any_event(random, &mut message);
+    }
+    message
+}
+
+fn next_action(random: &mut Random, status: u8) -> &'static str {
+    let admitted: Vec<&str> = ACTIONS
+        .into_iter()
+        .filter(|action| matrix::step(action, status).is_some())
+        .collect();
+    if admitted.is_empty() || random.once_in(6) {
+        return ACTIONS[random.below(ACTIONS.len())];
+    }
+    // Few swaps are ported, since nothing follows.
+    match *random.pick(&admitted) {
+        "PRTO" if !random.once_in(4) => "MODI",
+        action => action,
+    }
+}
+
+/// MODI and REVI repeat the stored execution time, most often.
+fn repeat_execution(random: &mut Random, message: &mut Message, action: &str, row: &Row) {
+    let repeats = matches!(action, "MODI" | "REVI") && !random.once_in(12);
+    if repeats || (action == "CORR" && random.once_in(2)) {
+        sound::set_execution(random, message, &row.terms[..20]);
+    }
+}
+
+/// Sets any event of the twelve, another of four capitals, or none.
+fn set_any_event(random: &mut Random, message: &mut Message) {
+    match random.below(EVENTS.len() + 2) {
+        0 => _ = message.remove(3),
+        1 => _ = message.set(3, random.text(4, values::CAPITALS)),
+        n => _ = message.set(3, EVENTS[n - 2]),
+    }
+}

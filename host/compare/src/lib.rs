@@ -1,0 +1,33 @@
+//! Tests of the swap data validation core beside a separately written checker.
+//!
+//! Both are lent copies of the same ledger, tape buffer and message; their
+//! answers and every byte afterwards have to be equal ([`compared`]). What is
+//! submitted comes from generators ([`sound`], [`faults`], [`cycles`]) that
+//! also say, from the paper, which verdict is due.
+
+pub mod compared;
+pub mod cycles;
+pub mod faults;
+pub mod garbage;
+pub mod guarded;
+pub mod histories;
+pub mod judge;
+pub mod layout;
+pub mod malformed;
+pub mod matrix;
+pub mod message;
+pub mod mix;
+pub mod random;
+pub mod sound;
+pub mod tally;
+pub mod terms;
+pub mod values;
+
+/// How many submissions a random part makes: as many as the environment
+/// variable SDR_SUBMISSIONS says, and at least the default.
+pub fn submissions(default: u64) -> u64 {
+    match std::env::var("SDR_SUBMISSIONS") {
+        Ok(text) => default.max(text.parse().expect("SDR_SUBMISSIONS is a number")),
+        Err(_) => default,
+    }
+}

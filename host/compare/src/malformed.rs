@@ -1,0 +1,225 @@
+//! Values that break the form of their element.
+
+use crate::values::{remainder, CAPITALS};
+
+/// Values that break the form of an element, at least two for each code.
+pub fn values(code: u8) -> Vec<Vec<u8>> {
+    match code {
+        1 => utis(),
+        2 => list(&[
+            "newt", "NEW", "NEWTS", "VALU", "MARU", "NEWT ", " NEWT", "TERN",
+        ]),
+        3 => list(&[
+            "trad", "TRA", "TRADE", "TR4D", "TRA ", "T", "@RAD", "TRA[", "Trad", "----",
+        ]),
+        4..=6 => times(),
+        7..=9 => dates(),
+        10 => list(&["y", "YES", " ", "X", "NN", "n", "i", "Y ", "T"]),
+        11 | 12 | 13 | 15 => truths(),
+        14 => list(&["post", "POS", "POSTS", "PREB", "UNAL ", "Prea", "ALOC", "P"]),
+        16 => packages(),
+        17 => prices(),
+        18 => list(&["2", "0", "4", "11", "1 ", " 3", "I", "-1", "1.0"]),
+        19 | 21 => list(&["US", "USDX", "usd", "U5D", "US ", "$", "UsD", "U[D", "@BC"]),
+        20 => amounts(),
+        22 => list(&["U", "USA", "us", "U1", "U ", "Us", "[A", "A@"]),
+        23 | 24 => leis(),
+        25 => list(&["cr", "CRE", "C", "XX", "EQ ", "Fx", "OC", "IR\0", "CRIR"]),
+        _ => panic!("no element has code {code}"),
+    }
+}
+
+fn list(values: &[&str]) -> Vec<Vec<u8>> {
+    values
+        .iter()
+        .map(|value| value.as_bytes().to_vec())
+        .collect()
+}
+
+fn utis() -> Vec<Vec<u8>> {
+    let sound = b"ABCDEFGHIJ0123456789K";
+    let mut values = vec![
+        sound[..20].to_vec(),
+        vec![b'A'; 53],
+        vec![b'9'; 200],
+        vec![b'A'],
+    ];
+    for wrong in b"a z-/:@[`{_\0\n\x80\xc1\xff" {
+        for at in [0, 10, 20] {
+            let mut value = sound.to_vec();
+            value[at] = *wrong;
+            values.push(value);
+        }
+    }
+    let mut padded = sound.to_vec();
+    padded.resize(52, b' ');
+    values.push(padded);
+    values
+}
+
+fn dates() -> Vec<Vec<u8>> {
+    list(&[
+        "1899-12-31",
+        "0000-01-01",
+        "1900-02-29",
+        "2023-02-29",
+        "2100-02-29",
+        "2024-02-30",
+        "2024-00-10",
+        "2024-13-10",
+        "2024-01-00",
+        "2024-01-32",
+        "2024-04-31",
+        "2024-06-31",
+        "2024-09-31",
+        "2024-11-31",
+        "2024-1-10",
+        "24-01-10",
+        "2024/01/10",
+        "2024-01-10 ",
+        " 2024-01-1",
+        "2024-01-1a",
+        "20240110",
+        "2024-01-10T",
+        "12024-01-1",
+        "2024-01",
+        "2024-0A-10",
+        "202:-01-10",
+        "2024-01-/0",
+        "-024-01-10",
+    ])
+}
+
+fn times() -> Vec<Vec<u8>> {
+    let mut values = list(&[
+        "2024-03-01T24:00:00Z",
+        "2024-03-01T23:60:00Z",
+        "2024-03-01T23:59:60Z",
+        "2024-03-01T10:15:30",
+        "2024-03-01T10:15:30z",
+        "2024-03-01t10:15:30Z",
+        "2024-03-01 10:15:30Z",
+        "2024-03-01T10-15-30Z",
+        "2024-03-01T10:15Z",
+        "2024-03-01T10:15:30.5Z",
+        "2024-03-01T10:15:30ZZ",
+        "2024-03-01T1a:15:30Z",
+        "2024-03-01T10:1/:30Z",
+        "2024-03-01T10:15:3:Z",
+        "2024-03-01",
+        "2024-03-01T10:15:30+",
+        "2024-03-01T99:15:30Z",
+    ]);
+    for date in dates().into_iter().filter(|date| date.len() == 10) {
+        values.push([date.as_slice(), b"T10:15:30Z"].concat());
+    }
+    values
+}
+
+fn truths() -> Vec<Vec<u8>> {
+    list(&[
+        "TRUE",
+        "FALSE",
+        "T",
+        "F",
+        "tRue",
+        "truE",
+        "True ",
+        " True",
+        "Falsee",
+        "fals",
+        "1",
+        "0",
+        "Y",
+        "TrueFalse",
+        "Tru\0",
+        "Tr",
+        "falsE",
+    ])
+}
+
+fn packages() -> Vec<Vec<u8>> {
+    let mut values = list(&[
+        "A B", "A-B", "A_", " ", "a.b", "A/", "A:", "@", "[", "`", "{", "A\0",
+    ]);
+    values.push(vec![b'A'; 101]);
+    values.push(vec![b'z'; 400]);
+    values.push(b"caf\xe9".to_vec());
+    values
+}
+
+/// Values that are no number at all.
+fn no_numbers() -> Vec<Vec<u8>> {
+    list(&[
+        ".", "1.", ".5", "+1", "1.2.3", "1,5", " 1", "1 ", "1e5", "1-", "x", "0x1", "1..5", "1:",
+        "/1", "1.-5", "1_0", "..", "1. 5",
+    ])
+}
+
+fn prices() -> Vec<Vec<u8>> {
+    let mut values = no_numbers();
+    values.extend(list(&[
+        "-",
+        "--1",
+        "-.5",
+        "-1.",
+        "- 1",
+        "-+1",
+        "1234567890123456789",
+        "-1234567890123456789",
+        "0000000000000000000",
+        "0.12345678901234",
+        "-0.12345678901234",
+        "123456.7890123456789",
+        "12345678901234567.89",
+    ]));
+    values
+}
+
+fn amounts() -> Vec<Vec<u8>> {
+    let mut values = no_numbers();
+    values.extend(list(&[
+        "-1",
+        "-0",
+        "-",
+        "12345678901234567890123456",
+        "00000000000000000000000000",
+        "123456789012345678901.23456",
+        "1.123456",
+        "0.000000",
+        "1234567890123456789012345.6",
+    ]));
+    values
+}
+
+fn leis() -> Vec<Vec<u8>> {
+    let sound = b"54930084UKLVMY22DS16";
+    let mut values = list(&[
+        "54930084UKLVMY22DS17",
+        "54930084UKLVMY22DS15",
+        "54930084UKLVMY22DS61",
+        "45930084UKLVMY22DS16",
+        "54930084UKLVMY22DS1",
+        "54930084UKLVMY22DS160",
+        "54930084uklvmy22ds16",
+        "54930084UKLVMY22DS 1",
+        "00000000000000000000",
+    ]);
+    for wrong in b"a/:@[`\0\x80" {
+        let mut value = sound.to_vec();
+        value[8] = *wrong;
+        values.push(value);
+    }
+    values.push(lei_with_letters());
+    values
+}
+
+/// A number that leaves 1 but ends in letters where check digits are due.
+fn lei_with_letters() -> Vec<u8> {
+    let pairs = CAPITALS
+        .iter()
+        .flat_map(|&first| CAPITALS.iter().map(move |&second| [first, second]));
+    let candidates = pairs.map(|pair| [b"54930084UKLVMY22DS".as_slice(), &pair].concat());
+    let mut fitting = candidates.filter(|lei| remainder(lei) == 1);
+    fitting.next().expect("676 pairs hold each remainder")
+}

@@ -1,0 +1,176 @@
+//! A mix of everything, one submission after the other.
+
+use crate::compared::{Compared, Mismatch};
+use crate::cycles::{next_message, Model};
+use crate::faults::{self, Case, Fault};
+use crate::garbage;
+use crate::layout;
+use crate::matrix::ACTIONS;
+use crate::random::Random;
+use crate::tally::Tally;
+use crate::values;
+
+/// After so many submissions another ledger is opened.
+const LIFE: u64 = 400;
+
+/// A run of random submissions of every kind.
+pub struct Mix {
+    random: Random,
+    /// The ledger that goes through life cycles.
+    long: Compared,
+    /// Ledgers of one submission each.
+    single: Compared,
+    model: Model,
+    utis: Vec<Vec<u8>>,
+    faults: Vec<Fault>,
+    steps: u64,
+}
+
+impl Mix {
+    /// A run that a seed tells.
+    pub fn new(seed: u64) -> Self {
+        Mix {
+            random: Random::new(seed),
+            long: Compared::new(),
+            single: Compared::new(),
+            model: Model::opened(0, [0; 5]),
+            utis: Vec::new(),
+            faults: faults::all(),
+            steps: 0,
+        }
+    }
+
+    /// What was answered so far.
+    pub fn tally(&self) -> Tally {
+        let mut tally = self.long.tally.clone();
+        tally.add(&self.single.tally);
+        tally
+    }
+
+    /// Makes one submission and asks one status.
+    pub fn step(&mut self) -> Result<(), Mismatch> {
+        if self.steps.is_multiple_of(LIFE) {
+            self.open()?;
+        }
+        self.steps += 1;
+        match self.random.below(8) {
+            0 => self.faulty(),
+            1 => self.flipped_message(),
+            2 => self.flipped_ledger(),
+            3 => self.wild(),
+            _ => self.life(),
+        }
+    }
+
+    /// Opens another ledger for life cycles.
+    fn open(&mut self) -> Result<(), Mismatch> {
+        let rows = *self.random.pick(&[1, 2, 3, 7, 20, 60, 400]);
+        let length = layout::length_for(rows) + self.random.below(160);
+        let caps = values::caps(&mut self.random);
+        self.long.set_ledger(&self.random.bytes(length));
+        self.long.try_open(&caps)?;
+        self.model = Model::opened(length, caps);
+        self.utis = values::utis(&mut self.random, (rows + 2).min(80));
+        Ok(())
+    }
+
+    /// A step of a life cycle, held to the model.
+    fn life(&mut self) -> Result<(), Mismatch> {
+        let message = next_message(&mut self.random, &self.model, &self.utis);
+        let length = self.tape_length();
+        self.long.set_tape(&self.random.bytes(length));
+        let answer = self.long.try_submit(&message.encode())?;
+        let due = self.model.submit(&message, length);
+        let same = (answer.verdict, answer.identifier) == (due.verdict, due.identifier);
+        let line = due
+            .line
+            .as_ref()
+            .is_none_or(|line| self.long.tape().starts_with(line));
+        if !same || !line {
+            return Err(Mismatch::new(
+                &message.encode(),
+                answer,
+                "the model says otherwise",
+            ));
+        }
+        let uti = self.random.pick(&self.utis);
+        let answer = self.long.try_status(uti)?;
+        let due = (self.model.status(uti), self.model.identifier(uti));
+        if (answer.status, answer.identifier) != due {
+            return Err(Mismatch::new(uti, answer, "the model says otherwise"));
+        }
+        Ok(())
+    }
+
+    fn tape_length(&mut self) -> usize {
+        if self.random.once_in(15) {
+            return self.random.below(146);
+        }
+        self.random.between(146, 200)
+    }
+
+    /// A case with up to four faults.
+    fn faulty(&mut self) -> Result<(), Mismatch> {
+        let action = *self.random.pick(&ACTIONS);
+        let mut case = Case::sound(&mut self.random, action);
+        let chosen = faults::some(&mut self.random, &self.faults, action, 4);
+        let due = case.break_rules(&mut self.random, &chosen);
+        self.single.set_ledger(&case.ledger());
+        self.single.set_tape(&case.tape());
+        let message = case.message();
+        let answer = self.single.try_submit(&message)?;
+        if (answer.verdict, answer.element) != due {
+            let text = format!("{chosen:?} have to get {due:?}");
+            return Err(Mismatch::new(&message, answer, &text));
+        }
+        self.ask_single()
+    }
+
+    /// A message of the life cycle with some bytes changed.
+    fn flipped_message(&mut self) -> Result<(), Mismatch> {
+        let message = next_message(&mut self.random, &self.model, &self.utis);
+        let mut bytes = message.encode();
+        garbage::flip(&mut self.random, &mut bytes);
+        self.single.set_ledger(self.long.ledger());
+        self.submit_single(&bytes)
+    }
+
+    /// The ledger of the life cycle with some bytes changed.
+    fn flipped_ledger(&mut self) -> Result<(), Mismatch> {
+        let message = next_message(&mut self.random, &self.model, &self.utis);
+        let mut ledger = self.long.ledger().to_vec();
+        let used = layout::length_for(self.model.rows.len());
+        garbage::flip(&mut self.random, &mut ledger[..used]);
+        self.single.set_ledger(&ledger);
+        self.submit_single(&message.encode())
+    }
+
+    /// Random bytes, or a message with wild codes and offsets.
+    fn wild(&mut self) -> Result<(), Mismatch> {
+        if self.random.once_in(4) {
+            self.single
+                .set_ledger(&garbage::noise(&mut self.random, 600));
+        } else {
+            self.single.set_ledger(self.long.ledger());
+        }
+        let message = if self.random.once_in(3) {
+            garbage::noise(&mut self.random, 3000)
+        } else {
+            garbage::wild_message(&mut self.random)
+        };
+        self.submit_single(&message)
+    }
+
+    fn submit_single(&mut self, message: &[u8]) -> Result<(), Mismatch> {
+        let length = self.tape_length();
+        self.single.set_tape(&self.random.bytes(length));
+        self.single.try_submit(message)?;
+        self.ask_single()
+    }
+
+    fn ask_single(&mut self) -> Result<(), Mismatch> {
+        let uti = self.random.pick(&self.utis);
+        self.single.try_status(uti)?;
+        Ok(())
+    }
+}

@@ -1,0 +1,178 @@
+//! What a line shows: the masked notional, the price, the masked terms.
+
+use crate::layout::{LINE_SIZE, TERMS_IN_LINE, TERMS_SIZE};
+use crate::message::Message;
+
+/// The asset classes, in the order of the caps.
+pub const CLASSES: [&str; 5] = ["CR", "IR", "FX", "EQ", "CO"];
+
+/// Digits after the point that code 20 can have.
+const AFTER_POINT: usize = 5;
+/// One unit of currency, counted in the last place that code 20 can have.
+const UNIT: u128 = 100_000;
+
+/// The bands: amounts below the first number are rounded to the second.
+const BANDS: [(u128, u128); 8] = [
+    (1_000, 5),
+    (10_000, 100),
+    (100_000, 1_000),
+    (1_000_000, 10_000),
+    (100_000_000, 1_000_000),
+    (500_000_000, 10_000_000),
+    (1_000_000_000, 50_000_000),
+    (100_000_000_000, 1_000_000_000),
+];
+/// Larger amounts are rounded to this.
+const LARGEST_STEP: u128 = 50_000_000_000;
+/// The lowest amount shown.
+const LOWEST_SHOWN: u128 = 5;
+
+/// A sound amount, counted in units of its last possible place.
+pub fn exact(amount: &[u8]) -> u128 {
+    let mut parts = amount.splitn(2, |&byte| byte == b'.');
+    let mut digits = parts.next().unwrap_or_default().to_vec();
+    let mut after = parts.next().unwrap_or_default().to_vec();
+    after.resize(AFTER_POINT, b'0');
+    digits.append(&mut after);
+    digits
+        .iter()
+        .fold(0, |number, digit| 10 * number + u128::from(digit - b'0'))
+}
+
+/// What an exact amount is rounded to.
+fn step(exact: u128) -> u128 {
+    BANDS
+        .iter()
+        .find(|band| exact < band.0 * UNIT)
+        .map_or(LARGEST_STEP, |band| band.1)
+}
+
+/// The rounded amount, in units of currency.
+pub fn rounded(exact: u128) -> u128 {
+    let step = step(exact);
+    let steps = (2 * exact + step * UNIT) / (2 * step * UNIT);
+    (steps * step).max(LOWEST_SHOWN)
+}
+
+/// The amount shown and whether a plus sign follows.
+pub fn masked(amount: &[u8], cap: u64) -> (u64, bool) {
+    let exact = exact(amount);
+    if exact > u128::from(cap) * UNIT {
+        return (cap, true);
+    }
+    let shown = u64::try_from(rounded(exact)).expect("an amount up to a cap");
+    (shown, false)
+}
+
+/// A sound price as the line shows it.
+pub fn shown_price(price: &[u8]) -> Vec<u8> {
+    let text = std::str::from_utf8(price).expect("a price is ASCII");
+    let (minus, number) = match text.strip_prefix('-') {
+        Some(number) => ("-", number),
+        None => ("", text),
+    };
+    let (whole, after) = number.split_once('.').unwrap_or((number, ""));
+    let whole = whole.trim_start_matches('0');
+    let after = after.trim_end_matches('0');
+    if whole.is_empty() && after.is_empty() {
+        return b"0".to_vec();
+    }
+    let whole = if whole.is_empty() { "0" } else { whole };
+    let point = if after.is_empty() { "" } else { "." };
+    format!("{minus}{whole}{point}{after}").into_bytes()
+}
+
+/// Whether a value of code 15 says true.
+pub fn is_true(value: &[u8]) -> bool {
+    matches!(value, b"True" | b"true")
+}
+
+/// Whether the element's "if" is met or it has none.
+pub fn applies(message: &Message, code: u8) -> bool {
+    let package = is_true(message.value(15));
+    match code {
+        11 => message.value(10) == b"N",
+        16..=18 => package,
+        19 => package && message.value(18) == b"1",
+        _ => true,
+    }
+}
+
+/// The cap of the message's asset class.
+fn cap_of(message: &Message, caps: &[u64; 5]) -> u64 {
+    let class = message.value(25);
+    let place = CLASSES.iter().position(|name| name.as_bytes() == class);
+    caps[place.expect("a sound asset class")]
+}
+
+/// The masked terms of a sound full message.
+pub fn terms_of(message: &Message, caps: &[u64; 5]) -> [u8; TERMS_SIZE] {
+    let (amount, plus) = masked(message.value(20), cap_of(message, caps));
+    let mut terms = Vec::new();
+    let mut field = |length: usize, text: &[u8]| {
+        terms.extend(text);
+        terms.resize(terms.len() + length - text.len(), b' ');
+    };
+    field(20, message.value(6));
+    field(10, message.value(7));
+    field(10, message.value(8));
+    field(1, message.value(10));
+    for code in [11, 12, 13, 15] {
+        field(1, shown_truth(message, code));
+    }
+    field(20, &price_of(message));
+    field(1, shown(message, 18));
+    field(3, shown(message, 19));
+    field(2, message.value(25));
+    field(16, format!("{amount:016}").as_bytes());
+    field(1, if plus { b"+" } else { b"" });
+    field(3, message.value(21));
+    field(2, message.value(22));
+    terms.try_into().expect("the terms have their size")
+}
+
+/// The value where its "if" is met, else nothing.
+fn shown(message: &Message, code: u8) -> &[u8] {
+    if applies(message, code) {
+        message.value(code)
+    } else {
+        b""
+    }
+}
+
+fn shown_truth(message: &Message, code: u8) -> &'static [u8] {
+    match shown(message, code) {
+        b"" => b"",
+        value if is_true(value) => b"T",
+        _ => b"F",
+    }
+}
+
+fn price_of(message: &Message) -> Vec<u8> {
+    match shown(message, 17) {
+        b"" => Vec::new(),
+        price => shown_price(price),
+    }
+}
+
+/// The line of a message; no previous identifier is blank.
+pub fn line_of(
+    message: &Message,
+    identifier: u64,
+    previous: Option<u64>,
+    terms: &[u8; TERMS_SIZE],
+) -> [u8; LINE_SIZE] {
+    let mut line = [b' '; LINE_SIZE];
+    line[0..12].copy_from_slice(format!("{identifier:012}").as_bytes());
+    if let Some(previous) = previous {
+        line[12..24].copy_from_slice(format!("{previous:012}").as_bytes());
+    }
+    line[24..28].copy_from_slice(message.value(2));
+    if let Some(event) = message.get(3) {
+        line[28..32].copy_from_slice(event);
+    }
+    line[32..52].copy_from_slice(message.value(4));
+    line[TERMS_IN_LINE].copy_from_slice(terms);
+    line[LINE_SIZE - 1] = b'\n';
+    line
+}

@@ -1,0 +1,294 @@
+//! Random values that keep their form.
+
+use crate::random::Random;
+use crate::terms::{masked, rounded};
+
+/// Capitals and digits.
+pub const CAPITALS_DIGITS: &[u8] = b"ABCDEFGHIJKLMNOPQRSTUVWXYZ0123456789";
+/// Capitals.
+pub const CAPITALS: &[u8] = b"ABCDEFGHIJKLMNOPQRSTUVWXYZ";
+/// Letters of both cases and digits.
+pub const LETTERS_DIGITS: &[u8] = b"ABCDEFGHIJKLMNOPQRSTUVWXYZabcdefghijklmnopqrstuvwxyz0123456789";
+/// Digits.
+pub const DIGITS: &[u8] = b"0123456789";
+/// The truths.
+pub const TRUTHS: [&str; 4] = ["True", "False", "true", "false"];
+
+/// Where the rounding of amounts changes: bounds of bands and some ties.
+const LANDMARKS: [u64; 24] = [
+    0,
+    5,
+    995,
+    1_000,
+    1_050,
+    9_950,
+    10_000,
+    10_500,
+    99_500,
+    100_000,
+    105_000,
+    995_000,
+    1_000_000,
+    1_500_000,
+    99_500_000,
+    100_000_000,
+    105_000_000,
+    500_000_000,
+    525_000_000,
+    1_000_000_000,
+    1_500_000_000,
+    100_000_000_000,
+    125_000_000_000,
+    1_000_000_000_000_000,
+];
+
+/// A UTI of 21 to 52 characters.
+pub fn uti(random: &mut Random) -> Vec<u8> {
+    let length = *random.pick(&[21, 22, 35, 42, 51, 52]);
+    random.text(length, CAPITALS_DIGITS)
+}
+
+/// UTIs that are all different, many of them alike in length or beginning.
+pub fn utis(random: &mut Random, count: usize) -> Vec<Vec<u8>> {
+    let mut utis: Vec<Vec<u8>> = Vec::new();
+    while utis.len() < count {
+        let next = match utis.last() {
+            Some(last) if !random.once_in(4) => similar_uti(random, &last.clone()),
+            _ => uti(random),
+        };
+        if !utis.contains(&next) {
+            utis.push(next);
+        }
+    }
+    utis
+}
+
+/// A UTI that differs from another in one character or in its end.
+pub fn similar_uti(random: &mut Random, other: &[u8]) -> Vec<u8> {
+    let mut uti = other.to_vec();
+    let last = uti.len() - 1;
+    match random.below(5) {
+        0 if uti.len() < 52 => uti.push(*random.pick(CAPITALS_DIGITS)),
+        1 if uti.len() > 21 => uti.truncate(last),
+        2 => uti[0] = *random.pick(CAPITALS_DIGITS),
+        3 => uti[last] = *random.pick(CAPITALS_DIGITS),
+        _ => uti[last / 2] = *random.pick(CAPITALS_DIGITS),
+    }
+    uti
+}
+
+/// A LEI with the check digits that its first 18 characters need.
+pub fn lei(random: &mut Random) -> Vec<u8> {
+    let body = random.text(18, CAPITALS_DIGITS);
+    lei_of(&body)
+}
+
+/// The LEI that opens with these 18 characters.
+pub fn lei_of(body: &[u8]) -> Vec<u8> {
+    let mut lei = body.to_vec();
+    lei.extend(b"00");
+    let check = 98 - remainder(&lei);
+    lei.truncate(18);
+    lei.extend(format!("{check:02}").as_bytes());
+    lei
+}
+
+/// The remainder by 97, with A to Z read as 10 to 35.
+pub fn remainder(characters: &[u8]) -> u32 {
+    characters.iter().fold(0, |rest, &byte| match byte {
+        b'0'..=b'9' => (10 * rest + u32::from(byte - b'0')) % 97,
+        _ => (100 * rest + u32::from(byte - b'A') + 10) % 97,
+    })
+}
+
+/// A date between two years.
+fn date_between(random: &mut Random, first: usize, last: usize) -> Vec<u8> {
+    let year = random.between(first, last);
+    let month = random.between(1, 12);
+    let longest = random.once_in(4);
+    let days = days_in(year, month);
+    let day = if longest {
+        days
+    } else {
+        random.between(1, days)
+    };
+    format!("{year:04}-{month:02}-{day:02}").into_bytes()
+}
+
+fn days_in(year: usize, month: usize) -> usize {
+    let leap = (year.is_multiple_of(4) && !year.is_multiple_of(100)) || year.is_multiple_of(400);
+    match month {
+        2 if leap => 29,
+        2 => 28,
+        4 | 6 | 9 | 11 => 30,
+        _ => 31,
+    }
+}
+
+/// A date, most often of our days.
+pub fn date(random: &mut Random) -> Vec<u8> {
+    match random.below(8) {
+        0 => date_between(random, 1900, 9999),
+        1 => date_between(random, 2000, 2000),
+        _ => date_between(random, 2018, 2031),
+    }
+}
+
+/// A date that is not before another.
+pub fn date_from(random: &mut Random, earliest: &[u8]) -> Vec<u8> {
+    let other = date(random);
+    if other.as_slice() >= earliest && !random.once_in(5) {
+        return other;
+    }
+    earliest.to_vec()
+}
+
+/// A time.
+pub fn time(random: &mut Random) -> Vec<u8> {
+    let mut time = date(random);
+    time.extend(clock(random));
+    time
+}
+
+/// The part of a time after the date.
+fn clock(random: &mut Random) -> Vec<u8> {
+    let (hour, minute, second) = match random.below(6) {
+        0 => (0, 0, 0),
+        1 => (23, 59, 59),
+        _ => (random.below(24), random.below(60), random.below(60)),
+    };
+    format!("T{hour:02}:{minute:02}:{second:02}Z").into_bytes()
+}
+
+/// A time that is not before another.
+pub fn time_from(random: &mut Random, earliest: &[u8]) -> Vec<u8> {
+    let mut other = time(random);
+    if random.once_in(3) {
+        other[..10].copy_from_slice(&earliest[..10]);
+    }
+    if other.as_slice() >= earliest && !random.once_in(5) {
+        return other;
+    }
+    earliest.to_vec()
+}
+
+/// An amount that keeps the form of code 20.
+pub fn amount(random: &mut Random) -> Vec<u8> {
+    match random.below(4) {
+        0 => any_amount(random),
+        1 => amount_beside_landmark(random),
+        _ => {
+            let digits = random.between(1, 16);
+            with_decimals(random, digits)
+        }
+    }
+}
+
+/// An amount of any length that the form allows.
+fn any_amount(random: &mut Random) -> Vec<u8> {
+    let digits = random.between(1, 25);
+    if digits <= 20 {
+        return with_decimals(random, digits);
+    }
+    random.text(digits, DIGITS)
+}
+
+fn with_decimals(random: &mut Random, digits: usize) -> Vec<u8> {
+    let mut text = random.text(digits, DIGITS);
+    if random.once_in(2) {
+        text.push(b'.');
+        let after = random.between(1, 5);
+        text.extend(random.text(after, DIGITS));
+    }
+    text
+}
+
+/// A landmark, or an amount 0.00001 or 1 beside it.
+fn amount_beside_landmark(random: &mut Random) -> Vec<u8> {
+    let landmark = *random.pick(&LANDMARKS);
+    let below = landmark.saturating_sub(1);
+    match random.below(6) {
+        0 => format!("{below}.99999"),
+        1 => format!("{landmark}.00001"),
+        2 => format!("{below}"),
+        3 => format!("{}", landmark + 1),
+        4 => format!("000{landmark}.0"),
+        _ => format!("{landmark}"),
+    }
+    .into_bytes()
+}
+
+/// Another amount that is masked alike under the cap, or the same one.
+pub fn amount_masked_alike(random: &mut Random, amount: &[u8], cap: u64) -> Vec<u8> {
+    let due = masked(amount, cap);
+    for _ in 0..20 {
+        let other = match random.below(3) {
+            0 => beside(random, due),
+            1 => self::amount(random),
+            _ => [b"0", amount].concat(),
+        };
+        if other != amount && is_amount(&other) && masked(&other, cap) == due {
+            return other;
+        }
+    }
+    amount.to_vec()
+}
+
+/// An amount near to what a line shows.
+fn beside(random: &mut Random, shown: (u64, bool)) -> Vec<u8> {
+    let (number, plus) = shown;
+    let distance = random.bits() % (1 + number / 8);
+    let other = if plus || random.once_in(2) {
+        number + distance
+    } else {
+        number - distance
+    };
+    format!("{other}.{}", random.below(100_000)).into_bytes()
+}
+
+/// Whether an amount that one of the generators made keeps its form.
+fn is_amount(amount: &[u8]) -> bool {
+    let digits = amount.iter().filter(|byte| byte.is_ascii_digit()).count();
+    let point = amount.iter().position(|&byte| byte == b'.');
+    digits <= 25 && point.map_or(0, |at| amount.len() - at - 1) <= 5
+}
+
+/// A price of at most so many digits and so many after the point.
+pub fn price(random: &mut Random, most: usize, most_after: usize) -> Vec<u8> {
+    let mut text = Vec::new();
+    if random.once_in(3) {
+        text.push(b'-');
+    }
+    let after = if random.once_in(4) {
+        0
+    } else {
+        random.between(1, most_after)
+    };
+    let whole = random.between(1, most - after);
+    let alphabet: &[u8] = if random.once_in(3) { b"00001" } else { DIGITS };
+    text.extend(random.text(whole, alphabet));
+    if after > 0 {
+        text.push(b'.');
+        text.extend(random.text(after, alphabet));
+    }
+    text
+}
+
+/// A cap: a number from 1,000 to 1,000,000,000,000,000 that is its own
+/// rounded amount.
+pub fn cap(random: &mut Random) -> u64 {
+    let digits = random.between(4, 15) as u32;
+    let number = 10u64.pow(digits - 1) + random.bits() % (9 * 10u64.pow(digits - 1));
+    let rounded = rounded(u128::from(number) * 100_000);
+    u64::try_from(rounded).expect("a number of at most 16 digits")
+}
+
+/// Five caps, most often different.
+pub fn caps(random: &mut Random) -> [u64; 5] {
+    match random.below(5) {
+        0 => [1_000_000_000_000_000; 5],
+        1 => [250_000_000; 5],
+        2 => [1_000, 250_000_000, 10_000, 1_000_000_000, 100_000_000_000],
+        _ => std::array::from_fn(|_| cap(random)),
+    }
+}

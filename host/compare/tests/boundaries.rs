@@ -1,0 +1,677 @@
+//! Lengths, amounts, dates, counts and identifiers at their bounds and one
+//! step to each side. What is expected is derived by hand.
+
+use compare::compared::Compared;
+use compare::layout::{self, length_for, Header, Row, HIGHEST_NEXT, LINE_SIZE};
+use compare::layout::{NOTIONAL_IN_LINE, PLUS_IN_LINE, PRICE_IN_LINE};
+use compare::message::Message;
+use compare::sound::{plain_new, plain_package, plain_short};
+use compare::terms::{terms_of, CLASSES};
+use compare::values::{lei_of, remainder};
+use sdr::Answer;
+
+const CAPS: [u64; 5] = [250_000_000; 5];
+const HIGHEST_CAP: u64 = 1_000_000_000_000_000;
+
+/// A fresh ledger of two rows and a tape buffer.
+fn opened(caps: [u64; 5]) -> Compared {
+    let mut compared = Compared::new();
+    compared.set_ledger(&vec![0xee; length_for(2)]);
+    compared.set_tape(&[b'x'; LINE_SIZE]);
+    assert_eq!(compared.open(&caps).verdict, 0);
+    compared
+}
+
+/// Verdict and element of one message on a fresh ledger.
+fn judged(message: &[u8]) -> (u8, u8) {
+    let answer = opened(CAPS).submit(message);
+    (answer.verdict, answer.element)
+}
+
+fn judged_with(code: u8, value: &str) -> (u8, u8) {
+    judged(&plain_new().with(code, value).encode())
+}
+
+#[test]
+fn lengths_of_a_uti() {
+    let mut compared = opened(CAPS);
+    for (length, due) in [
+        (1, (9, 1)),
+        (20, (9, 1)),
+        (21, (0, 0)),
+        (52, (0, 0)),
+        (53, (9, 1)),
+    ] {
+        let uti = "A".repeat(length);
+        assert_eq!(judged_with(1, &uti), due, "{length}");
+        let answer = compared.status(uti.as_bytes());
+        assert_eq!((answer.verdict, answer.element), due, "{length}");
+    }
+}
+
+#[test]
+fn lengths_of_a_message() {
+    assert_eq!(judged(&[]), (5, 0));
+    assert_eq!(judged(&[0]), (5, 0));
+    assert_eq!(judged(&[1]), (5, 0));
+    assert_eq!(judged(&[0, 0]), (6, 2));
+    assert_eq!(judged(&[1, 0]), (5, 0));
+    assert_eq!(judged(&[0, 0, 0]), (5, 0));
+    assert_eq!(judged(&[0, 1]), (5, 0));
+    assert_eq!(judged(&[1, 0, 1, 0, 6, 0]), (5, 0));
+    assert_eq!(judged(&[1, 0, 1, 0, 6, 0, b'A']), (6, 2));
+    assert_eq!(judged(&[1, 0, 25, 0, 6, 0, b'A']), (6, 2));
+    assert_eq!(judged(&[1, 0, 26, 0, 6, 0, b'A']), (5, 0));
+    assert_eq!(judged(&[1, 0, 0, 0, 6, 0, b'A']), (5, 0));
+    assert_eq!(judged(&[1, 0, 1, 0, 5, 0, b'A']), (5, 0));
+    assert_eq!(judged(&[1, 0, 1, 0, 7, 0, b'A']), (5, 0));
+    for (length, due) in [(2047, (9, 16)), (2048, (9, 16)), (2049, (5, 0))] {
+        assert_eq!(judged(&message_of_length(length)), due, "{length}");
+    }
+}
+
+/// A message that is sound but for a package identifier that fills it up.
+fn message_of_length(length: usize) -> Vec<u8> {
+    let shortest = plain_new().with(16, "A").encode().len();
+    let message = plain_new().with(16, "A".repeat(length - shortest + 1));
+    assert_eq!(message.encode().len(), length);
+    message.encode()
+}
+
+#[test]
+fn twenty_five_elements() {
+    let mut message = plain_package("1", "5");
+    message.set(11, "True").set(22, "US");
+    assert_eq!(message.codes().len(), 25);
+    assert_eq!(judged(&message.encode()), (0, 0));
+    assert_eq!(judged(&message.with(25, "XX").encode()), (9, 25));
+}
+
+#[test]
+fn lengths_of_a_package_identifier() {
+    let package = |length: usize| {
+        plain_package("1", "5")
+            .with(16, "z".repeat(length))
+            .encode()
+    };
+    assert_eq!(judged(&package(0)), (5, 0));
+    assert_eq!(judged(&package(1)), (0, 0));
+    assert_eq!(judged(&package(100)), (0, 0));
+    assert_eq!(judged(&package(101)), (9, 16));
+}
+
+#[test]
+fn digits_of_an_amount() {
+    for sound in [
+        "1234567890123456789012345",
+        "0000000000000000000000000",
+        "12345678901234567890.12345",
+        "123456789012345678901234.5",
+        "0.12345",
+        "00.00000",
+    ] {
+        assert_eq!(judged_with(20, sound), (0, 0), "{sound}");
+    }
+    for wrong in [
+        "12345678901234567890123456",
+        "00000000000000000000000000",
+        "123456789012345678901.12345",
+        "1234567890123456789012345.6",
+        "0.123456",
+        "0.000000",
+    ] {
+        assert_eq!(judged_with(20, wrong), (9, 20), "{wrong}");
+    }
+}
+
+/// Verdict and element.
+type Due = (u8, u8);
+
+/// Prices, what is due under notation 1 and under notation 3.
+const PRICES: [(&str, Due, Due); 16] = [
+    ("123456789012345678", (0, 0), (12, 0)),
+    ("-123456789012345678", (0, 0), (12, 0)),
+    ("1234567890123456789", (9, 17), (9, 17)),
+    ("-1234567890123456789", (9, 17), (9, 17)),
+    ("0.1234567890123", (0, 0), (12, 0)),
+    ("0.12345678901234", (9, 17), (9, 17)),
+    ("12345.1234567890123", (0, 0), (12, 0)),
+    ("123456.1234567890123", (9, 17), (9, 17)),
+    ("12345678901", (0, 0), (0, 0)),
+    ("-12345678901", (0, 0), (0, 0)),
+    ("123456789012", (0, 0), (12, 0)),
+    ("000000000001", (0, 0), (12, 0)),
+    ("0.1234567890", (0, 0), (0, 0)),
+    ("-0.1234567890", (0, 0), (0, 0)),
+    ("0.12345678901", (0, 0), (12, 0)),
+    ("00.1234567890", (0, 0), (12, 0)),
+];
+
+#[test]
+fn digits_of_a_price() {
+    for (price, plain, short) in PRICES {
+        assert_eq!(
+            judged(&plain_package("1", price).encode()),
+            plain,
+            "{price}"
+        );
+        assert_eq!(
+            judged(&plain_package("3", price).encode()),
+            short,
+            "{price}"
+        );
+        // Without a package the price is left out, and 12 does not judge it.
+        let left_out = plain_package("3", price).with(15, "False");
+        assert_eq!(judged(&left_out.encode()), plain, "{price}");
+    }
+}
+
+#[test]
+fn prices_as_shown() {
+    for (price, shown) in [
+        ("0", "0"),
+        ("-0", "0"),
+        ("000", "0"),
+        ("-00.00", "0"),
+        ("0.0", "0"),
+        ("007", "7"),
+        ("-007", "-7"),
+        ("100", "100"),
+        ("100.00", "100"),
+        ("0.50", "0.5"),
+        ("-0.50", "-0.5"),
+        ("00.05", "0.05"),
+        ("10.010", "10.01"),
+        ("-123456789012345678", "-123456789012345678"),
+        ("-99999.9999999999999", "-99999.9999999999999"),
+        ("00000.0000000000001", "0.0000000000001"),
+    ] {
+        let mut compared = opened(CAPS);
+        assert_eq!(
+            compared.submit(&plain_package("1", price).encode()).verdict,
+            0
+        );
+        let due = format!("{shown:20}");
+        assert_eq!(compared.tape()[PRICE_IN_LINE], *due.as_bytes(), "{price}");
+    }
+}
+
+/// What a line shows for an amount of interest rate swaps under a cap.
+fn shown(amount: &str, cap: u64) -> (u64, char) {
+    let mut compared = opened([1_000, cap, 1_000, 1_000, 1_000]);
+    let answer = compared.submit(&plain_new().with(20, amount).encode());
+    assert_eq!(answer.verdict, 0, "{amount}");
+    let text = String::from_utf8_lossy(&compared.tape()[NOTIONAL_IN_LINE]).into_owned();
+    let number = text.parse().expect("the notional is a number");
+    (number, char::from(compared.tape()[PLUS_IN_LINE]))
+}
+
+/// Amounts at bounds and ties, and 0.00001 beside them, with what is shown.
+const BANDS: [(&str, u64); 77] = [
+    ("0", 5),
+    ("0.00001", 5),
+    ("2.49999", 5),
+    ("2.5", 5),
+    ("4.99999", 5),
+    ("7.49999", 5),
+    ("7.5", 10),
+    ("7.50001", 10),
+    ("12.49999", 10),
+    ("12.5", 15),
+    ("997.49999", 995),
+    ("997.5", 1_000),
+    ("997.50001", 1_000),
+    ("999.99999", 1_000),
+    ("1000", 1_000),
+    ("1000.00001", 1_000),
+    ("1049.99999", 1_000),
+    ("1050", 1_100),
+    ("1050.00001", 1_100),
+    ("9949.99999", 9_900),
+    ("9950", 10_000),
+    ("9950.00001", 10_000),
+    ("9999.99999", 10_000),
+    ("10000", 10_000),
+    ("10050", 10_000),
+    ("10499.99999", 10_000),
+    ("10500", 11_000),
+    ("10500.00001", 11_000),
+    ("99499.99999", 99_000),
+    ("99500", 100_000),
+    ("99999.99999", 100_000),
+    ("100000", 100_000),
+    ("100500", 100_000),
+    ("104999.99999", 100_000),
+    ("105000", 110_000),
+    ("105000.00001", 110_000),
+    ("994999.99999", 990_000),
+    ("995000", 1_000_000),
+    ("999999.99999", 1_000_000),
+    ("1000000", 1_000_000),
+    ("1005000", 1_000_000),
+    ("1499999.99999", 1_000_000),
+    ("1500000", 2_000_000),
+    ("1500000.00001", 2_000_000),
+    ("99499999.99999", 99_000_000),
+    ("99500000", 100_000_000),
+    ("99999999.99999", 100_000_000),
+    ("100000000", 100_000_000),
+    ("100500000", 100_000_000),
+    ("104999999.99999", 100_000_000),
+    ("105000000", 110_000_000),
+    ("105000000.00001", 110_000_000),
+    ("494999999.99999", 490_000_000),
+    ("495000000", 500_000_000),
+    ("499999999.99999", 500_000_000),
+    ("500000000", 500_000_000),
+    ("505000000", 500_000_000),
+    ("524999999.99999", 500_000_000),
+    ("525000000", 550_000_000),
+    ("974999999.99999", 950_000_000),
+    ("975000000", 1_000_000_000),
+    ("999999999.99999", 1_000_000_000),
+    ("1000000000", 1_000_000_000),
+    ("1025000000", 1_000_000_000),
+    ("1499999999.99999", 1_000_000_000),
+    ("1500000000", 2_000_000_000),
+    ("99499999999.99999", 99_000_000_000),
+    ("99500000000", 100_000_000_000),
+    ("99999999999.99999", 100_000_000_000),
+    ("100000000000", 100_000_000_000),
+    ("100500000000", 100_000_000_000),
+    ("124999999999.99999", 100_000_000_000),
+    ("125000000000", 150_000_000_000),
+    ("174999999999.99999", 150_000_000_000),
+    ("175000000000", 200_000_000_000),
+    ("999974999999999.99999", 999_950_000_000_000),
+    ("999975000000000", 1_000_000_000_000_000),
+];
+
+#[test]
+fn bands_and_ties() {
+    for (amount, due) in BANDS {
+        assert_eq!(shown(amount, HIGHEST_CAP), (due, ' '), "{amount}");
+    }
+}
+
+#[test]
+fn amounts_at_below_and_above_a_cap() {
+    for (amount, cap, due) in [
+        ("249999999.99999", 250_000_000, (250_000_000, ' ')),
+        ("250000000", 250_000_000, (250_000_000, ' ')),
+        ("000250000000.00000", 250_000_000, (250_000_000, ' ')),
+        ("250000000.00001", 250_000_000, (250_000_000, '+')),
+        ("250400000", 250_000_000, (250_000_000, '+')),
+        ("254999999", 250_000_000, (250_000_000, '+')),
+        ("255000000", 250_000_000, (250_000_000, '+')),
+        ("244999999.99999", 250_000_000, (240_000_000, ' ')),
+        ("245000000", 250_000_000, (250_000_000, ' ')),
+        ("999.99999", 1_000, (1_000, ' ')),
+        ("1000", 1_000, (1_000, ' ')),
+        ("1000.00001", 1_000, (1_000, '+')),
+        ("1049.99999", 1_000, (1_000, '+')),
+        ("3", 1_000, (5, ' ')),
+        ("1000000000000000", HIGHEST_CAP, (HIGHEST_CAP, ' ')),
+        ("1000000000000000.00001", HIGHEST_CAP, (HIGHEST_CAP, '+')),
+        ("9999999999999999999999999", HIGHEST_CAP, (HIGHEST_CAP, '+')),
+        ("18446744073709551616", 1_000, (1_000, '+')),
+        ("18446744073709551621", HIGHEST_CAP, (HIGHEST_CAP, '+')),
+    ] {
+        assert_eq!(shown(amount, cap), due, "{amount} under {cap}");
+    }
+}
+
+#[test]
+fn each_class_has_its_own_cap() {
+    let caps = [1_000, 1_100, 1_200, 1_300, 1_400];
+    for (class, cap) in CLASSES.iter().zip(caps) {
+        let mut compared = opened(caps);
+        let message = plain_new().with(25, class).with(20, "5000");
+        assert_eq!(compared.submit(&message.encode()).verdict, 0);
+        let due = format!("{class}{cap:016}+");
+        assert_eq!(compared.tape()[121..140], *due.as_bytes());
+    }
+}
+
+#[test]
+fn caps_at_opening() {
+    let sound = [
+        1_000,
+        1_100,
+        9_900,
+        10_000,
+        99_000,
+        100_000,
+        110_000,
+        990_000,
+        1_000_000,
+        99_000_000,
+        100_000_000,
+        490_000_000,
+        500_000_000,
+        550_000_000,
+        950_000_000,
+        1_000_000_000,
+        99_000_000_000,
+        100_000_000_000,
+        150_000_000_000,
+        999_950_000_000_000,
+        HIGHEST_CAP,
+    ];
+    let wrong = [
+        0,
+        5,
+        100,
+        995,
+        999,
+        1_001,
+        1_005,
+        1_050,
+        9_950,
+        9_999,
+        10_100,
+        101_000,
+        1_010_000,
+        101_000_000,
+        510_000_000,
+        1_050_000_000,
+        101_000_000_000,
+        999_999_999_999_999,
+        HIGHEST_CAP + 1,
+        HIGHEST_CAP + 50_000_000_000,
+        1 << 63,
+        u64::MAX,
+    ];
+    let cases = sound.map(|cap| (cap, 0)).into_iter();
+    for (cap, due) in cases.chain(wrong.map(|cap| (cap, 2))) {
+        for place in 0..5 {
+            let mut compared = Compared::new();
+            compared.set_ledger(&vec![0xee; length_for(1)]);
+            let mut caps = CAPS;
+            caps[place] = cap;
+            assert_eq!(compared.open(&caps).verdict, due, "{cap}");
+        }
+    }
+}
+
+#[test]
+fn dates_and_leap_years() {
+    for (date, sound) in [
+        ("1900-01-01", true),
+        ("1899-12-31", false),
+        ("9999-12-31", true),
+        ("1900-02-28", true),
+        ("1900-02-29", false),
+        ("2000-02-29", true),
+        ("2000-02-30", false),
+        ("2023-02-29", false),
+        ("2024-02-29", true),
+        ("2024-02-30", false),
+        ("2100-02-29", false),
+        ("2400-02-29", true),
+        ("2024-01-31", true),
+        ("2024-01-32", false),
+        ("2024-04-30", true),
+        ("2024-04-31", false),
+        ("2024-12-31", true),
+        ("2024-12-32", false),
+        ("2024-13-01", false),
+        ("2024-00-01", false),
+        ("2024-01-00", false),
+    ] {
+        let due = |code| if sound { (0, 0) } else { (9, code) };
+        let mut message = plain_new();
+        message.set(8, "9999-12-31").set(9, "9999-12-31");
+        assert_eq!(judged(&message.with(7, date).encode()), due(7), "{date}");
+        message.set(7, "1900-01-01");
+        assert_eq!(judged(&message.with(8, date).encode()), due(8), "{date}");
+        message.set(8, "1900-01-01");
+        assert_eq!(judged(&message.with(9, date).encode()), due(9), "{date}");
+        let time = format!("{date}T00:00:00Z");
+        assert_eq!(judged_with(4, &time), due(4), "{time}");
+    }
+}
+
+#[test]
+fn times_of_the_day() {
+    for (clock, sound) in [
+        ("00:00:00", true),
+        ("23:59:59", true),
+        ("24:00:00", false),
+        ("23:60:00", false),
+        ("23:59:60", false),
+        ("19:09:09", true),
+        ("20:00:00", true),
+        ("29:00:00", false),
+        ("00:59:00", true),
+        ("00:00:59", true),
+        ("00:61:00", false),
+        ("00:00:61", false),
+    ] {
+        let due = |code| if sound { (0, 0) } else { (9, code) };
+        let time = format!("2024-03-01T{clock}Z");
+        assert_eq!(judged_with(4, &time), due(4), "{time}");
+        let early = plain_new().with(6, "1900-01-01T00:00:00Z");
+        assert_eq!(judged(&early.with(5, &time).encode()), due(5), "{time}");
+        let late = plain_new().with(5, "9999-12-31T23:59:59Z");
+        assert_eq!(judged(&late.with(6, &time).encode()), due(6), "{time}");
+    }
+}
+
+#[test]
+fn order_of_dates_and_times() {
+    let order = |code: u8, value: &str, due: (u8, u8)| {
+        assert_eq!(judged_with(code, value), due, "{code} {value}");
+    };
+    // Effective 2024-03-04, expiration 2029-03-04, settlement 2029-03-06.
+    order(7, "2029-03-04", (0, 0));
+    order(7, "2029-03-05", (13, 0));
+    order(8, "2024-03-04", (0, 0));
+    order(8, "2024-03-03", (13, 0));
+    order(9, "2029-03-04", (0, 0));
+    order(9, "2029-03-03", (13, 0));
+    // Execution 10:15:30, reporting 10:20:00.
+    order(5, "2024-03-01T10:15:30Z", (0, 0));
+    order(5, "2024-03-01T10:15:29Z", (13, 0));
+    order(6, "2024-03-01T10:20:00Z", (0, 0));
+    order(6, "2024-03-01T10:20:01Z", (13, 0));
+    // The event time is not judged.
+    order(4, "1900-01-01T00:00:00Z", (0, 0));
+    order(4, "9999-12-31T23:59:59Z", (0, 0));
+}
+
+#[test]
+fn check_digits_of_a_lei() {
+    // 00, 01 and 99 pass where the remainder is 1.
+    for (check, other) in [("97", "00"), ("98", "01"), ("02", "99")] {
+        let bodies = (0..).map(|n| format!("{n:018}"));
+        let mut fitting = bodies.filter(|body| lei_of(body.as_bytes()).ends_with(check.as_bytes()));
+        let body = fitting.next().expect("some body has these check digits");
+        for digits in [check, other] {
+            let lei = format!("{body}{digits}");
+            assert_eq!(remainder(lei.as_bytes()), 1);
+            assert_eq!(judged_with(23, &lei), (0, 0), "{lei}");
+            assert_eq!(judged_with(24, &lei), (0, 0), "{lei}");
+        }
+        let lei = format!("{body}50");
+        assert_eq!(judged_with(23, &lei), (9, 23), "{lei}");
+    }
+}
+
+#[test]
+fn lengths_of_a_ledger() {
+    for (length, verdict, capacity) in [
+        (223, 1, 0),
+        (224, 0, 1),
+        (225, 0, 1),
+        (383, 0, 1),
+        (384, 0, 2),
+        (16_000_063, 0, 99_999),
+        (16_000_064, 0, 100_000),
+        (16_000_065, 0, 100_000),
+        (16_000_224, 0, 100_000),
+    ] {
+        let mut compared = Compared::new();
+        compared.set_ledger(&vec![0xee; length]);
+        assert_eq!(compared.open(&CAPS).verdict, verdict, "{length}");
+        if verdict == 0 {
+            assert_eq!(layout::u32_at(compared.ledger(), 60), capacity, "{length}");
+            assert!(compared.ledger()[64..].iter().all(|&byte| byte == 0xee));
+            assert_eq!(compared.status(&[b'A'; 21]), Answer::default());
+        }
+    }
+}
+
+#[test]
+fn rows_up_to_capacity() {
+    for (length, rows) in [(224, 1), (383, 1), (384, 2), (length_for(5) + 159, 5)] {
+        let mut compared = Compared::new();
+        compared.set_ledger(&vec![0xee; length]);
+        compared.set_tape(&[b'x'; LINE_SIZE]);
+        assert_eq!(compared.open(&CAPS).verdict, 0);
+        for n in 0..rows {
+            let answer = compared.submit(&swap(n).encode());
+            assert_eq!((answer.verdict, answer.identifier), (0, n + 1));
+        }
+        assert_eq!(compared.submit(&swap(rows).encode()).verdict, 17);
+        // Known swaps go on, and their names are not free for NEWT.
+        assert_eq!(compared.submit(&swap(0).encode()).verdict, 15);
+        let changed = swap(0).with(2, "MODI");
+        assert_eq!(compared.submit(&changed.encode()).identifier, rows + 1);
+        // Rows equal to capacity are no fault of the header.
+        assert_eq!(compared.status(swap(0).value(1)).verdict, 0);
+    }
+}
+
+fn swap(n: u64) -> Message {
+    plain_new().with(1, format!("1000000000SWAP{n:010}"))
+}
+
+/// A ledger of two rows in which the plain swap is live.
+fn in_use(next: u64, identifier: u64) -> Vec<u8> {
+    let mut ledger = vec![0xee; length_for(2)];
+    let mut header = Header::opened(ledger.len(), CAPS);
+    header.rows = 1;
+    header.next = next;
+    let terms = terms_of(&plain_new(), &CAPS);
+    let row = Row::new(plain_new().value(1), identifier, terms);
+    layout::write(&mut ledger, &header, &[row]);
+    ledger
+}
+
+fn submit_to(ledger: &[u8], message: &Message) -> (Answer, Compared) {
+    let mut compared = Compared::new();
+    compared.set_ledger(ledger);
+    compared.set_tape(&[b'x'; LINE_SIZE]);
+    (compared.submit(&message.encode()), compared)
+}
+
+#[test]
+fn the_next_identifier_at_its_end() {
+    let new = swap(77);
+    let ended = plain_short("TERM", Some("ETRM"));
+    let ported = plain_short("PRTO", Some("PTNG"));
+    for message in [&new, &ended] {
+        let (answer, compared) = submit_to(&in_use(HIGHEST_NEXT - 1, 1), message);
+        assert_eq!((answer.verdict, answer.identifier), (0, 999_999_999_999));
+        assert_eq!(compared.tape()[..12], *b"999999999999");
+        assert_eq!(layout::u64_at(compared.ledger(), 8), HIGHEST_NEXT);
+        assert_eq!(submit_to(&in_use(HIGHEST_NEXT, 1), message).0.verdict, 18);
+        assert_eq!(
+            submit_to(&in_use(HIGHEST_NEXT + 1, 1), message).0.verdict,
+            3
+        );
+        assert_eq!(submit_to(&in_use(0, 1), message).0.verdict, 3);
+    }
+    for (next, verdict) in [
+        (HIGHEST_NEXT - 1, 0),
+        (HIGHEST_NEXT, 0),
+        (HIGHEST_NEXT + 1, 3),
+    ] {
+        let (answer, _) = submit_to(&in_use(next, 1), &ported);
+        assert_eq!((answer.verdict, answer.identifier), (verdict, 0));
+    }
+    // A last identifier of 999,999,999,999 is shown as the previous one.
+    let (answer, _) = submit_to(&in_use(HIGHEST_NEXT, HIGHEST_NEXT - 1), &ported);
+    assert_eq!(answer.verdict, 0);
+}
+
+#[test]
+fn a_row_s_identifier_at_its_ends() {
+    let next = 50;
+    let uti = plain_new();
+    let changed = plain_new().with(2, "MODI");
+    for (identifier, verdict) in [(0, 14), (1, 0), (49, 0), (50, 14), (51, 14), (u64::MAX, 14)] {
+        let ledger = in_use(next, identifier);
+        for message in [
+            &changed,
+            &plain_short("TERM", Some("ETRM")),
+            &plain_short("PRTO", Some("PTNG")),
+        ] {
+            assert_eq!(
+                submit_to(&ledger, message).0.verdict,
+                verdict,
+                "{identifier}"
+            );
+        }
+        // NEWT of a known swap gets 15, but 14 comes first.
+        let due = if verdict == 0 { 15 } else { 14 };
+        assert_eq!(submit_to(&ledger, &plain_new()).0.verdict, due);
+        // Other swaps do not mind.
+        assert_eq!(submit_to(&ledger, &swap(5)).0.verdict, 0);
+        let mut compared = Compared::new();
+        compared.set_ledger(&ledger);
+        let answer = compared.status(uti.value(1));
+        let shown = if verdict == 0 {
+            (1, identifier)
+        } else {
+            (0, 0)
+        };
+        assert_eq!(answer.verdict, verdict);
+        assert_eq!((answer.status, answer.identifier), shown);
+    }
+}
+
+#[test]
+fn lengths_of_a_tape_buffer() {
+    for (length, verdict) in [(0, 4), (1, 4), (145, 4), (146, 0), (147, 0), (1000, 0)] {
+        for message in [plain_new(), plain_short("PRTO", Some("PTNG"))] {
+            let mut compared = Compared::new();
+            let known = message.value(2) == b"PRTO";
+            let ledger = in_use(9, 3);
+            compared.set_ledger(&ledger);
+            compared.set_tape(&vec![b'x'; length]);
+            let message = if known { message } else { swap(6) };
+            let answer = compared.submit(&message.encode());
+            assert_eq!(answer.verdict, verdict, "{length}");
+            if known {
+                assert!(compared.tape().iter().all(|&byte| byte == b'x'));
+            } else if verdict == 0 {
+                assert_eq!(compared.tape()[145], b'\n');
+                assert!(compared.tape()[146..].iter().all(|&byte| byte == b'x'));
+            }
+        }
+    }
+}
+
+#[test]
+fn a_hundred_thousand_rows() {
+    let length = length_for(100_000);
+    let mut header = Header::opened(length, CAPS);
+    header.rows = 100_000;
+    header.next = 200_000;
+    let terms = terms_of(&plain_new(), &CAPS);
+    let row = |n: u64| Row::new(swap(n).value(1), n + 1, terms);
+    let rows: Vec<Row> = (0..100_000).map(row).collect();
+    let mut ledger = vec![0xee; length];
+    layout::write(&mut ledger, &header, &rows);
+    let mut compared = Compared::new();
+    compared.set_ledger(&ledger);
+    compared.set_tape(&[b'x'; LINE_SIZE]);
+    assert_eq!(compared.submit(&swap(100_000).encode()).verdict, 17);
+    let changed = swap(99_999).with(2, "MODI");
+    assert_eq!(compared.submit(&changed.encode()).identifier, 200_000);
+    assert_eq!(compared.tape()[12..24], *b"000000100000");
+    let answer = compared.status(swap(99_999).value(1));
+    assert_eq!((answer.status, answer.identifier), (1, 200_000));
+}

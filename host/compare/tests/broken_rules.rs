@@ -1,0 +1,171 @@
+//! One rule broken, two rules broken, several rules broken: the verdict due
+//! is that of the lowest number, with the lowest element at fault.
+
+use compare::compared::Compared;
+use compare::faults::{self, Case, Fault, CONDITIONAL, NEEDED_BY_ALL, NEEDED_BY_FULL};
+use compare::layout::length_for;
+use compare::malformed;
+use compare::matrix::{is_full, ACTIONS};
+use compare::message::described;
+use compare::random::Random;
+use compare::tally::Tally;
+use compare::{submissions, values};
+use std::ops::RangeInclusive;
+
+/// Submits the case with the faults and holds both judges to what is due.
+fn try_faults(compared: &mut Compared, random: &mut Random, action: &str, faults: &[Fault]) {
+    let mut case = Case::sound(random, action);
+    let due = case.break_rules(random, faults);
+    submit(compared, &case, due, &format!("{action} with {faults:?}"));
+}
+
+fn submit(compared: &mut Compared, case: &Case, due: (u8, u8), text: &str) {
+    compared.set_ledger(&case.ledger());
+    compared.set_tape(&case.tape());
+    let message = case.message();
+    let answer = compared.submit(&message);
+    let text = format!("{text}\n{}", described(&message));
+    assert_eq!((answer.verdict, answer.element), due, "{text}");
+    let line_due = due.0 == 0 && case.message.value(2) != b"PRTO";
+    let identifier = if line_due { case.header.next } else { 0 };
+    assert_eq!(answer.identifier, identifier, "{text}");
+}
+
+/// The faults that a message of the action can have.
+fn fitting(action: &str) -> Vec<Fault> {
+    let all = faults::all().into_iter();
+    all.filter(|fault| fault.fits(action)).collect()
+}
+
+#[test]
+fn sound_cases_are_accepted() {
+    let mut random = Random::for_test(101);
+    let mut compared = Compared::new();
+    for action in ACTIONS {
+        for _ in 0..300 {
+            try_faults(&mut compared, &mut random, action, &[]);
+        }
+    }
+    println!("sound cases: {}", compared.tally);
+    assert_eq!(compared.tally.verdict(0), compared.tally.submissions);
+}
+
+#[test]
+fn one_rule_broken() {
+    let mut random = Random::for_test(102);
+    let mut compared = Compared::new();
+    for action in ACTIONS {
+        for fault in fitting(action) {
+            for _ in 0..8 {
+                try_faults(&mut compared, &mut random, action, &[fault]);
+            }
+        }
+    }
+    println!("one rule: {}", compared.tally);
+    every_verdict_was_met(&compared.tally, 3..=18);
+    every_element_was_met(&compared.tally);
+}
+
+#[test]
+fn two_rules_broken() {
+    let mut random = Random::for_test(103);
+    let mut compared = Compared::new();
+    for action in ACTIONS {
+        let faults = fitting(action);
+        for (n, first) in faults.iter().enumerate() {
+            for second in &faults[n + 1..] {
+                try_faults(&mut compared, &mut random, action, &[*first, *second]);
+            }
+        }
+    }
+    println!("two rules: {}", compared.tally);
+    // 18 is the last rule: it is never the lower of two.
+    every_verdict_was_met(&compared.tally, 3..=17);
+    every_element_was_met(&compared.tally);
+}
+
+#[test]
+fn up_to_six_rules_broken() {
+    let mut random = Random::for_test(104);
+    let mut compared = Compared::new();
+    let all = faults::all();
+    for _ in 0..submissions(15_000) {
+        let action = *random.pick(&ACTIONS);
+        let chosen = faults::some(&mut random, &all, action, 6);
+        try_faults(&mut compared, &mut random, action, &chosen);
+    }
+    println!("up to six rules: {}", compared.tally);
+}
+
+#[test]
+fn every_malformed_value() {
+    let mut random = Random::for_test(105);
+    let mut compared = Compared::new();
+    for action in ACTIONS {
+        let highest = if is_full(action) { 25 } else { 5 };
+        for code in 1..=highest {
+            for value in malformed::values(code) {
+                let mut case = Case::sound(&mut random, action);
+                case.message.set(code, &value);
+                let due = if code == 2 { (6, 2) } else { (9, code) };
+                submit(
+                    &mut compared,
+                    &case,
+                    due,
+                    &format!("{action} {code} {value:?}"),
+                );
+            }
+        }
+    }
+    println!("malformed values: {}", compared.tally);
+    for code in (1..=25).filter(|&code| code != 2) {
+        assert!(compared.tally.element(9, code) >= 4, "9 with {code}");
+    }
+}
+
+#[test]
+fn opening_refuses_1_before_2() {
+    let mut random = Random::for_test(106);
+    let mut compared = Compared::new();
+    let wrong = [0, 995, 1_050, 250_400_000, 1_000_000_000_000_001, u64::MAX];
+    for length in [0, 1, 63, 64, 65, 223] {
+        compared.set_ledger(&random.bytes(length));
+        assert_eq!(compared.open(&values::caps(&mut random)).verdict, 1);
+        assert_eq!(compared.open(&[wrong[0]; 5]).verdict, 1);
+    }
+    for place in 0..5 {
+        for cap in wrong {
+            compared.set_ledger(&random.bytes(length_for(2)));
+            let mut caps = values::caps(&mut random);
+            caps[place] = cap;
+            assert_eq!(compared.open(&caps).verdict, 2, "{caps:?}");
+        }
+    }
+    compared.set_ledger(&random.bytes(length_for(2)));
+    assert_eq!(compared.open(&values::caps(&mut random)).verdict, 0);
+    println!("opening: {}", compared.tally);
+    assert!((0..=2).all(|verdict| compared.tally.verdict(verdict) > 0));
+}
+
+fn every_verdict_was_met(tally: &Tally, verdicts: RangeInclusive<u8>) {
+    for verdict in verdicts {
+        assert!(tally.verdict(verdict) > 0, "verdict {verdict}");
+    }
+}
+
+/// Every element that 6, 7, 8, 9 and 11 can name was named.
+fn every_element_was_met(tally: &Tally) {
+    assert!(tally.element(6, 2) > 0);
+    for code in NEEDED_BY_ALL.into_iter().chain(NEEDED_BY_FULL) {
+        assert!(tally.element(7, code) > 0, "7 with {code}");
+    }
+    for code in 6..=25 {
+        assert!(tally.element(8, code) > 0, "8 with {code}");
+    }
+    for code in (1..=25).filter(|&code| code != 2) {
+        assert!(tally.element(9, code) > 0, "9 with {code}");
+    }
+    for code in CONDITIONAL {
+        assert!(tally.element(11, code) > 0, "11 with {code}");
+    }
+}

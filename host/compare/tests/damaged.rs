@@ -1,0 +1,313 @@
+//! Damaged ledgers: headers, rows, lengths, and bytes changed at random.
+
+use compare::compared::Compared;
+use compare::cycles::{next_message, Model};
+use compare::garbage::flip;
+use compare::layout::{self, length_for, Header, Row, LINE_SIZE};
+use compare::message::Message;
+use compare::random::Random;
+use compare::sound::{plain_new, plain_short};
+use compare::terms::terms_of;
+use compare::{submissions, values};
+use sdr::{Answer, CLOSED, ERRORED, LIVE};
+
+const CAPS: [u64; 5] = [1_000, 250_000_000, 100_000, 1_000_000_000, 150_000_000_000];
+const NEXT: u64 = 40;
+
+fn header(length: usize) -> Header {
+    let mut header = Header::opened(length, CAPS);
+    header.rows = 3;
+    header.next = NEXT;
+    header
+}
+
+fn rows() -> Vec<Row> {
+    let terms = terms_of(&plain_new(), &CAPS);
+    let plain = Row::new(plain_new().value(1), 7, terms);
+    let before = Row::new(b"1000000000SWAP000000000", 8, terms);
+    let after = Row::new(b"1000000000SWAP00000000012", 9, terms);
+    vec![before, plain, after]
+}
+
+fn ledger_of(header: &Header, rows: &[Row], length: usize) -> Vec<u8> {
+    let mut ledger = vec![0xee; length];
+    layout::write(&mut ledger, header, rows);
+    ledger
+}
+
+fn lent(ledger: &[u8]) -> Compared {
+    let mut compared = Compared::new();
+    compared.set_ledger(ledger);
+    compared.set_tape(&[b'x'; LINE_SIZE]);
+    compared
+}
+
+fn changed() -> Message {
+    plain_new().with(2, "MODI")
+}
+
+/// The verdicts of a submission and of a status question.
+fn verdicts(ledger: &[u8]) -> (u8, u8) {
+    let mut compared = lent(ledger);
+    let asked = compared.status(plain_new().value(1)).verdict;
+    let submitted = compared.submit(&changed().encode()).verdict;
+    (submitted, asked)
+}
+
+#[test]
+fn each_field_of_the_header() {
+    let length = length_for(5) + 9;
+    let sound = header(length);
+    assert_eq!(verdicts(&ledger_of(&sound, &rows(), length)), (0, 0));
+    let mut damaged: Vec<Header> = Vec::new();
+    let mut add = |change: &dyn Fn(&mut Header)| {
+        let mut header = sound.clone();
+        change(&mut header);
+        damaged.push(header);
+    };
+    for rows in [6, 7, 256, 1 << 24, u32::MAX] {
+        add(&|header| header.rows = rows);
+    }
+    for first in [0, 63, 65, 160, 224, 64 << 8, 64 << 24, u32::MAX] {
+        add(&|header| header.first = first);
+    }
+    for next in [0, 1_000_000_000_001, 1 << 40, 1 << 63, u64::MAX] {
+        add(&|header| header.next = next);
+    }
+    for row_size in [0, 159, 161, 160 << 8, u32::MAX] {
+        add(&|header| header.row_size = row_size);
+    }
+    for capacity in [0, 3, 4, 6, 5 << 8, 100_000, u32::MAX] {
+        add(&|header| header.capacity = capacity);
+    }
+    for class in 0..5 {
+        for cap in [0, 999, 1_050, 250_400_000, 1_000_000_000_000_001, u64::MAX] {
+            add(&|header| header.caps[class] = cap);
+        }
+    }
+    for header in damaged {
+        let ledger = ledger_of(&header, &rows(), length);
+        assert_eq!(verdicts(&ledger), (3, 3), "{header:?}");
+    }
+}
+
+#[test]
+fn headers_that_look_odd_and_are_sound() {
+    let length = length_for(5);
+    let mut odd = header(length);
+    // Next and rows in use need not fit together; rows may equal capacity.
+    odd.next = 1_000_000_000_000;
+    assert_eq!(verdicts(&ledger_of(&odd, &rows(), length)), (18, 0));
+    let mut full = header(length_for(3));
+    full.next = 10;
+    assert_eq!(verdicts(&ledger_of(&full, &rows(), length_for(3))), (0, 0));
+    // No row in use: the swap is unknown.
+    let mut empty = header(length);
+    empty.rows = 0;
+    assert_eq!(verdicts(&ledger_of(&empty, &rows(), length)), (15, 0));
+    empty.rows = 1;
+    assert_eq!(verdicts(&ledger_of(&empty, &rows(), length)), (15, 0));
+}
+
+#[test]
+fn a_ledger_lent_shorter_or_longer() {
+    let opened = header(length_for(5));
+    for (length, due) in [
+        (length_for(5), (0, 0)),
+        (length_for(5) + 159, (0, 0)),
+        (length_for(6), (3, 3)),
+        (length_for(5) - 1, (3, 3)),
+        (length_for(3), (3, 3)),
+        (224, (3, 3)),
+        (223, (3, 3)),
+        (64, (3, 3)),
+        (63, (3, 3)),
+        (0, (3, 3)),
+    ] {
+        let mut ledger = ledger_of(&opened, &rows(), length_for(7));
+        ledger.truncate(length);
+        assert_eq!(verdicts(&ledger), due, "{length}");
+    }
+}
+
+/// The verdicts where the plain swap's row is changed.
+fn verdicts_with(change: impl Fn(&mut Row)) -> (u8, u8) {
+    let length = length_for(5);
+    let mut rows = rows();
+    change(&mut rows[1]);
+    verdicts(&ledger_of(&header(length), &rows, length))
+}
+
+#[test]
+fn rows_with_a_bad_status_or_identifier() {
+    for status in [0, 5, 6, 49, 128, 255] {
+        assert_eq!(
+            verdicts_with(|row| row.status = status),
+            (14, 14),
+            "{status}"
+        );
+    }
+    for identifier in [0, NEXT, NEXT + 1, 1 << 40, u64::MAX] {
+        let change = |row: &mut Row| row.identifier = identifier;
+        assert_eq!(verdicts_with(change), (14, 14), "{identifier}");
+    }
+    for identifier in [1, 2, NEXT - 1] {
+        let change = |row: &mut Row| row.identifier = identifier;
+        assert_eq!(verdicts_with(change), (0, 0), "{identifier}");
+    }
+}
+
+#[test]
+fn a_bad_row_of_another_swap_is_no_fault() {
+    let length = length_for(5);
+    for row in [0, 2] {
+        let mut rows = rows();
+        rows[row].status = 9;
+        rows[row].identifier = 0;
+        assert_eq!(verdicts(&ledger_of(&header(length), &rows, length)), (0, 0));
+    }
+}
+
+#[test]
+fn rows_with_another_length_are_not_the_swap_s() {
+    for length in [0, 1, 20, 21, 23, 25, 52, 53, 128, 255] {
+        // The message's UTI has 24 characters.
+        assert_eq!(
+            verdicts_with(|row| row.length = length),
+            (15, 0),
+            "{length}"
+        );
+    }
+    assert_eq!(verdicts_with(|row| row.uti[0] ^= 1), (15, 0));
+    assert_eq!(verdicts_with(|row| row.uti[23] ^= 1), (15, 0));
+}
+
+#[test]
+fn padding_terms_and_tail_are_not_judged() {
+    assert_eq!(verdicts_with(|row| row.uti[24..].fill(b'Z')), (0, 0));
+    assert_eq!(verdicts_with(|row| row.tail = [1, 2, 3, 4, 5]), (0, 0));
+    assert_eq!(verdicts_with(|row| row.terms[20..].fill(0xff)), (0, 0));
+    // All but the execution time, which MODI has to repeat.
+    assert_eq!(verdicts_with(|row| row.terms[19] = b'z'), (16, 0));
+}
+
+#[test]
+fn a_change_leaves_padding_and_tail() {
+    let length = length_for(5);
+    let mut rows = rows();
+    rows[1].uti[24..].fill(b'Z');
+    rows[1].tail = [9, 8, 7, 6, 5];
+    rows[1].terms[20..].fill(0xff);
+    rows[1].status = CLOSED;
+    for (message, status) in [
+        (plain_new().with(2, "CORR").without(3), CLOSED),
+        (plain_new().with(2, "REVI").without(3), LIVE),
+        (plain_short("EROR", None), ERRORED),
+    ] {
+        let mut compared = lent(&ledger_of(&header(length), &rows, length));
+        assert_eq!(compared.submit(&message.encode()).identifier, NEXT);
+        let mut due = rows.clone();
+        due[1].status = status;
+        due[1].identifier = NEXT;
+        if message.has(6) {
+            due[1].terms = terms_of(&message, &CAPS);
+        }
+        let mut raised = header(length);
+        raised.next += 1;
+        assert_eq!(compared.ledger(), ledger_of(&raised, &due, length));
+        assert_eq!(compared.tape()[52..145], due[1].terms);
+    }
+}
+
+#[test]
+fn the_first_of_two_rows_with_one_uti_counts() {
+    let length = length_for(5);
+    let mut rows = rows();
+    rows[2] = rows[1].clone();
+    rows[1].status = CLOSED;
+    rows[1].identifier = 11;
+    rows[2].identifier = 12;
+    let ledger = ledger_of(&header(length), &rows, length);
+    let mut compared = lent(&ledger);
+    let answer = compared.status(plain_new().value(1));
+    assert_eq!((answer.status, answer.identifier), (CLOSED, 11));
+    assert_eq!(compared.submit(&changed().encode()).verdict, 15);
+    let ended = plain_short("EROR", None);
+    assert_eq!(compared.submit(&ended.encode()).identifier, NEXT);
+    assert_eq!(compared.tape()[12..24], *b"000000000011");
+    assert_eq!(compared.ledger()[layout::row_range(2)], rows[2].encode());
+    // A bad first row is 14, though the second is sound.
+    rows[1].status = 0;
+    let mut compared = lent(&ledger_of(&header(length), &rows, length));
+    let refused = Answer {
+        verdict: 14,
+        ..Answer::default()
+    };
+    assert_eq!(compared.status(plain_new().value(1)), refused);
+    assert_eq!(compared.submit(&changed().encode()), refused);
+}
+
+/// A ledger that has seen some life, with its model and the swaps' UTIs.
+fn lived(random: &mut Random) -> (Vec<u8>, Model, Vec<Vec<u8>>) {
+    let rows = random.between(2, 12);
+    let length = length_for(rows) + random.below(160);
+    let mut model = Model::opened(length, values::caps(random));
+    let utis = values::utis(random, rows + 1);
+    for _ in 0..30 {
+        let message = next_message(random, &model, &utis);
+        model.submit(&message, LINE_SIZE);
+    }
+    let mut ledger = random.bytes(length);
+    layout::write(&mut ledger, &model.header, &model.rows);
+    (ledger, model, utis)
+}
+
+#[test]
+fn bytes_of_the_ledger_changed_at_random() {
+    let mut random = Random::for_test(401);
+    let mut compared = Compared::new();
+    let mut tape = random.bytes(160);
+    while compared.tally.submissions < submissions(25_000) {
+        let (sound, model, utis) = lived(&mut random);
+        for _ in 0..25 {
+            let mut ledger = sound.clone();
+            let end = if random.once_in(3) { 64 } else { ledger.len() };
+            flip(&mut random, &mut ledger[..end]);
+            compared.set_ledger(&ledger);
+            flip(&mut random, &mut tape);
+            compared.set_tape(&tape);
+            let uti = random.pick(&utis);
+            compared.status(uti);
+            let message = next_message(&mut random, &model, &utis);
+            compared.submit(&message.encode());
+            compared.status(message.value(1));
+        }
+    }
+    println!("changed ledgers: {}", compared.tally);
+    for verdict in [0, 3, 14, 15] {
+        assert!(compared.tally.verdict(verdict) > 0, "verdict {verdict}");
+    }
+}
+
+#[test]
+fn bytes_of_the_message_changed_at_random() {
+    let mut random = Random::for_test(402);
+    let mut compared = Compared::new();
+    let tape = random.bytes(150);
+    while compared.tally.submissions < submissions(25_000) {
+        let (ledger, model, utis) = lived(&mut random);
+        for _ in 0..25 {
+            compared.set_ledger(&ledger);
+            compared.set_tape(&tape);
+            let mut message = next_message(&mut random, &model, &utis).encode();
+            let end = if random.once_in(3) { 40 } else { message.len() };
+            let end = end.min(message.len());
+            flip(&mut random, &mut message[..end]);
+            compared.submit(&message);
+        }
+    }
+    println!("changed messages: {}", compared.tally);
+    for verdict in [0, 5, 6, 9, 10, 15] {
+        assert!(compared.tally.verdict(verdict) > 0, "verdict {verdict}");
+    }
+}

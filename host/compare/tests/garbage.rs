@@ -1,0 +1,140 @@
+//! Bytes that no host would send: noise in all three buffers, wild codes and
+//! offsets, messages cut short or made longer.
+
+use compare::compared::Compared;
+use compare::garbage::{noise, wild_message};
+use compare::layout::{length_for, Header, LINE_SIZE};
+use compare::matrix::ACTIONS;
+use compare::random::Random;
+use compare::sound::{self, plain_new, plain_package};
+use compare::{submissions, values};
+
+#[test]
+fn noise_in_all_buffers() {
+    let mut random = Random::for_test(501);
+    let mut compared = Compared::new();
+    for _ in 0..submissions(25_000) {
+        compared.set_ledger(&noise_ledger(&mut random));
+        compared.set_tape(&noise(&mut random, 300));
+        compared.submit(&noise(&mut random, 2_100));
+        compared.status(&noise(&mut random, 60));
+    }
+    println!("noise: {}", compared.tally);
+    for verdict in [3, 4, 5] {
+        assert!(compared.tally.verdict(verdict) > 0, "verdict {verdict}");
+    }
+}
+
+/// Noise, or noise behind a sound header.
+fn noise_ledger(random: &mut Random) -> Vec<u8> {
+    if random.once_in(2) {
+        return noise(random, 1_000);
+    }
+    let length = length_for(random.between(1, 4)) + random.below(160);
+    let mut ledger = random.bytes(length);
+    let mut header = Header::opened(length, values::caps(random));
+    header.rows = random.below(header.capacity as usize + 1) as u32;
+    header.next = 1 + random.bits() % 1_000_000_000_000;
+    ledger[..64].copy_from_slice(&header.encode());
+    ledger
+}
+
+#[test]
+fn wild_codes_and_offsets() {
+    let mut random = Random::for_test(502);
+    let mut compared = opened(&mut random);
+    for _ in 0..submissions(25_000) {
+        compared.submit(&wild_message(&mut random));
+    }
+    println!("wild messages: {}", compared.tally);
+    for verdict in [5, 6] {
+        assert!(compared.tally.verdict(verdict) > 0, "verdict {verdict}");
+    }
+}
+
+#[test]
+fn wild_values_under_a_sound_action() {
+    let mut random = Random::for_test(503);
+    let mut compared = opened(&mut random);
+    for _ in 0..submissions(15_000) {
+        let action = *random.pick(&ACTIONS);
+        let uti = values::uti(&mut random);
+        let mut message = sound::message(&mut random, action, &uti);
+        for _ in 0..random.between(1, 3) {
+            let code = random.between(1, 25) as u8;
+            if code != 2 && message.has(code) {
+                let length = random.between(1, 30);
+                let value = random.text(length, b"0123456789.-:TZAYaz ");
+                message.set(code, value);
+            }
+        }
+        compared.submit(&message.encode());
+    }
+    println!("wild values: {}", compared.tally);
+    assert!(compared.tally.verdict(9) > 0);
+}
+
+fn opened(random: &mut Random) -> Compared {
+    let mut compared = Compared::new();
+    compared.set_ledger(&random.bytes(length_for(3)));
+    compared.set_tape(&random.bytes(170));
+    assert_eq!(compared.open(&[250_000_000; 5]).verdict, 0);
+    compared
+}
+
+#[test]
+fn every_prefix_of_a_sound_message() {
+    let mut random = Random::for_test(504);
+    let whole = plain_package("1", "12.50").with(11, "True").with(22, "US");
+    let bytes = whole.encode();
+    // The last value is an asset class of two characters: one byte less makes
+    // it malformed, two bytes less leave it empty.
+    for length in 0..=bytes.len() {
+        let mut compared = opened(&mut random);
+        let answer = compared.submit(&bytes[..length]);
+        let due = match bytes.len() - length {
+            0 => (0, 0),
+            1 => (9, 25),
+            _ => (5, 0),
+        };
+        assert_eq!((answer.verdict, answer.element), due, "{length}");
+    }
+}
+
+#[test]
+fn extended_messages() {
+    let mut random = Random::for_test(505);
+    let bytes = plain_new().encode();
+    for more in 1..=2_100 {
+        let mut compared = opened(&mut random);
+        let mut longer = bytes.clone();
+        longer.extend(random.bytes(more));
+        let answer = compared.submit(&longer);
+        let due = if longer.len() > 2_048 {
+            (5, 0)
+        } else {
+            (9, 25)
+        };
+        assert_eq!((answer.verdict, answer.element), due, "{more}");
+    }
+}
+
+#[test]
+fn prefixes_of_random_messages() {
+    let mut random = Random::for_test(506);
+    let mut compared = opened(&mut random);
+    while compared.tally.submissions < submissions(15_000) {
+        let action = *random.pick(&ACTIONS);
+        let uti = values::uti(&mut random);
+        let bytes = sound::message(&mut random, action, &uti).encode();
+        for length in 0..bytes.len() {
+            if random.once_in(4) {
+                compared.submit(&bytes[..length]);
+            }
+        }
+    }
+    println!("prefixes: {}", compared.tally);
+    assert!(compared.tally.verdict(5) > 0);
+    assert_eq!(compared.tape().len(), 170);
+    assert!(compared.tape().len() > LINE_SIZE);
+}

@@ -1,0 +1,423 @@
+//! Demand 3: histories that agree in what is public have equal tapes; where
+//! one premise is broken the tapes can differ.
+
+use compare::compared::Compared;
+use compare::cycles::{next_message, Model};
+use compare::histories::{broken_premises, run, Call, History, Premise};
+use compare::layout::{length_for, LINE_SIZE};
+use compare::malformed;
+use compare::message::Message;
+use compare::random::Random;
+use compare::sound::{self, plain_new, plain_package};
+use compare::terms::{applies, is_true, CLASSES};
+use compare::values::{self, CAPITALS};
+use compare::{matrix, submissions};
+
+/// Swaps and calls of a random history.
+const SWAPS: usize = 8;
+const CALLS: usize = 30;
+
+/// Two histories that agree in what is public, and nothing more.
+fn pair_of_histories(random: &mut Random) -> (History, History) {
+    let caps = values::caps(random);
+    let (first_length, second_length) = lengths(random);
+    let names = values::utis(random, 2 * SWAPS);
+    let (utis, others) = names.split_at(SWAPS);
+    let mut model = Model::opened(first_length, caps);
+    let (mut first, mut second) = (Vec::new(), Vec::new());
+    for _ in 0..CALLS {
+        let calls = if random.once_in(4) {
+            refused_pair(random)
+        } else {
+            let message = next_message(random, &model, utis);
+            model.submit(&message, LINE_SIZE);
+            let renamed = renamed(&message, utis, others);
+            let other = disguised(random, &renamed, &caps);
+            (call(random, message.encode()), call(random, other.encode()))
+        };
+        first.push(calls.0);
+        second.push(calls.1);
+    }
+    let first = history(random, first_length, caps, first);
+    let second = history(random, second_length, caps, second);
+    (first, second)
+}
+
+/// Two lengths: of one capacity that may run out, or of two that do not.
+fn lengths(random: &mut Random) -> (usize, usize) {
+    if random.once_in(2) {
+        let rows = random.between(1, SWAPS - 1);
+        return (length_for(rows), length_for(rows) + random.between(1, 159));
+    }
+    let longer = SWAPS + random.between(1, 9);
+    (length_for(SWAPS), length_for(longer) + random.below(160))
+}
+
+fn history(random: &mut Random, length: usize, caps: [u64; 5], calls: Vec<Call>) -> History {
+    History {
+        ledger: random.bytes(length),
+        caps,
+        tampering: (0, Vec::new()),
+        calls,
+    }
+}
+
+/// A call with old bytes in the tape buffer.
+fn call(random: &mut Random, message: Vec<u8>) -> Call {
+    let length = random.between(LINE_SIZE, 170);
+    let tape = random.bytes(length);
+    Call { message, tape }
+}
+
+/// The message with its swap under another name.
+fn renamed(message: &Message, utis: &[Vec<u8>], others: &[Vec<u8>]) -> Message {
+    let place = utis.iter().position(|uti| uti == message.value(1));
+    message.with(1, &others[place.expect("a swap of the history")])
+}
+
+/// The message with everything else that is not public.
+fn disguised(random: &mut Random, message: &Message, caps: &[u64; 5]) -> Message {
+    let mut other = message.clone();
+    if !message.has(6) {
+        other.set(5, values::time(random));
+        return other;
+    }
+    sound::set_execution(random, &mut other, message.value(6));
+    other.set(9, values::date_from(random, message.value(8)));
+    other.set(14, random.pick(&["POST", "PREA", "UNAL"]));
+    other.set(23, values::lei(random));
+    other.set(24, values::lei(random));
+    if message.has(16) {
+        other.set(16, sound::package_identifier(random));
+    }
+    for code in [11, 12, 13, 15] {
+        spell_otherwise(random, &mut other, code);
+    }
+    let class = CLASSES
+        .iter()
+        .position(|name| name.as_bytes() == message.value(25));
+    let cap = caps[class.expect("an asset class")];
+    other.set(
+        20,
+        values::amount_masked_alike(random, message.value(20), cap),
+    );
+    change_left_out(random, &mut other);
+    other
+}
+
+fn spell_otherwise(random: &mut Random, message: &mut Message, code: u8) {
+    if message.has(code) {
+        let [large, small] = match is_true(message.value(code)) {
+            true => ["True", "true"],
+            false => ["False", "false"],
+        };
+        message.set(code, if random.once_in(2) { large } else { small });
+    }
+}
+
+/// Elements that are left out may be there or not, with any sound value.
+fn change_left_out(random: &mut Random, message: &mut Message) {
+    for code in [11, 16, 17, 18, 19] {
+        if applies(message, code) {
+            continue;
+        }
+        match (random.below(3), code) {
+            (0, _) => _ = message.remove(code),
+            (1, 11) => _ = message.set(11, random.pick(&values::TRUTHS)),
+            (1, 17) => _ = message.set(17, values::price(random, 18, 13)),
+            (1, 19) => _ = message.set(19, random.text(3, CAPITALS)),
+            _ => {}
+        }
+    }
+}
+
+/// Two calls that are refused with the same number for different reasons.
+fn refused_pair(random: &mut Random) -> (Call, Call) {
+    let verdict = *random.pick(&[4, 5, 6, 7, 8, 9, 10, 11, 13, 15]);
+    (refused(random, verdict), refused(random, verdict))
+}
+
+/// A call that is refused with this number on every ledger of a history.
+fn refused(random: &mut Random, verdict: u8) -> Call {
+    let uti = values::uti(random);
+    let full = sound::message(random, "NEWT", &uti);
+    let short = sound::message(random, "TERM", &uti);
+    let message = match verdict {
+        5 => {
+            let length = random.between(1, 60);
+            let surplus = random.bytes(length);
+            return call(random, [vec![0, 0], surplus].concat());
+        }
+        6 => full.with(2, random.pick(&malformed::values(2))),
+        7 => full.without(*random.pick(&[1, 4, 5, 6, 9, 12, 20, 25])),
+        8 => short.with(random.between(6, 25) as u8, "value"),
+        9 => {
+            let code = *random.pick(&[1, 3, 4, 7, 9, 10, 15, 17, 20, 22, 23, 24, 25]);
+            full.with(code, random.pick(&malformed::values(code)))
+        }
+        10 => full.with(3, random.pick(&["ETRM", "CREV", "ABCD"])),
+        11 => full.with(10, "N").without(11),
+        13 => full
+            .with(7, "2030-01-02")
+            .with(8, "2030-01-01")
+            .with(9, "2030-01-01"),
+        15 => short,
+        _ => full,
+    };
+    let mut call = call(random, message.encode());
+    if verdict == 4 {
+        call.tape.truncate(random.below(LINE_SIZE));
+    }
+    call
+}
+
+#[test]
+fn tapes_of_agreeing_histories_are_equal() {
+    let mut random = Random::for_test(701);
+    let mut compared = Compared::new();
+    let (mut pairs, mut lines, mut different) = (0, 0, 0);
+    while compared.tally.submissions < submissions(24_000) {
+        let (first, second) = pair_of_histories(&mut random);
+        let first = run(&mut compared, &first);
+        let second = run(&mut compared, &second);
+        assert_eq!(broken_premises(&first, &second), []);
+        assert!(first.tape == second.tape, "tapes differ in pair {pairs}");
+        pairs += 1;
+        lines += first.tape.len() / LINE_SIZE;
+        different += first
+            .messages
+            .iter()
+            .zip(&second.messages)
+            .filter(|(a, b)| a != b)
+            .count();
+    }
+    println!(
+        "histories: {pairs} pairs, {lines} lines, {}",
+        compared.tally
+    );
+    assert!(lines > 5 * pairs && different > 20 * pairs);
+}
+
+/// The premises that two histories break, and whether their tapes differ.
+fn compare_histories(first: &History, second: &History) -> (Vec<Premise>, bool) {
+    let mut compared = Compared::new();
+    let first = run(&mut compared, first);
+    let second = run(&mut compared, second);
+    (broken_premises(&first, &second), first.tape != second.tape)
+}
+
+/// A plain history of these messages.
+fn plain(messages: &[Message]) -> History {
+    let call = |message: &Message| Call {
+        message: message.encode(),
+        tape: vec![b'x'; LINE_SIZE],
+    };
+    History {
+        ledger: vec![0; length_for(5)],
+        caps: [250_000_000; 5],
+        tampering: (0, Vec::new()),
+        calls: messages.iter().map(call).collect(),
+    }
+}
+
+fn swap(n: u64) -> Message {
+    plain_new().with(1, format!("1000000000SWAP{n:010}"))
+}
+
+fn correct(n: u64) -> Message {
+    swap(n).with(2, "CORR").without(3)
+}
+
+fn short(n: u64, action: &str, event: Option<&str>) -> Message {
+    let message = sound::plain_short(action, event);
+    message.with(1, swap(n).value(1))
+}
+
+/// Two new swaps, then the message.
+fn ending_with(message: Message) -> History {
+    plain(&[swap(1), swap(2), message])
+}
+
+fn breaks_only(premise: Premise, first: &History, second: &History) {
+    assert_eq!(compare_histories(first, first), (Vec::new(), false));
+    assert_eq!(compare_histories(second, first), (vec![premise], true));
+    assert_eq!(compare_histories(first, second), (vec![premise], true));
+}
+
+#[test]
+fn a_verdict_number_broken() {
+    let first = ending_with(swap(3));
+    let second = ending_with(swap(3).with(24, "54930084UKLVMY22DS17"));
+    breaks_only(Premise::Verdict, &first, &second);
+}
+
+#[test]
+fn an_action_broken() {
+    let new = swap(1);
+    let error = short(1, "EROR", None);
+    let second = correct(1).with(4, error.value(4));
+    let histories = [error, second].map(|message| plain(&[new.clone(), message]));
+    breaks_only(Premise::Action, &histories[0], &histories[1]);
+}
+
+#[test]
+fn an_event_broken() {
+    let first = ending_with(swap(3));
+    let second = ending_with(swap(3).with(3, "NOVA"));
+    breaks_only(Premise::Event, &first, &second);
+}
+
+#[test]
+fn an_event_time_broken() {
+    let first = ending_with(short(2, "TERM", Some("ETRM")));
+    let later = short(2, "TERM", Some("ETRM")).with(4, "2024-04-01T09:00:01Z");
+    breaks_only(Premise::EventTime, &first, &ending_with(later));
+}
+
+/// Public elements of a package and another value for each.
+const PUBLIC: [(u8, &str); 15] = [
+    (6, "2024-03-01T10:15:29Z"),
+    (7, "2024-03-05"),
+    (8, "2029-03-05"),
+    (10, "I"),
+    (11, "False"),
+    (12, "True"),
+    (13, "True"),
+    (15, "False"),
+    (17, "12.6"),
+    (18, "3"),
+    (19, "EUR"),
+    (20, "1500000"),
+    (21, "EUR"),
+    (22, "GB"),
+    (25, "FX"),
+];
+
+#[test]
+fn masked_terms_broken() {
+    let mut package = plain_package("1", "12.5");
+    package.set(10, "N").set(11, "True").set(22, "US");
+    for (code, value) in PUBLIC {
+        let first = ending_with(package.with(1, swap(3).value(1)));
+        let changed = package.with(1, swap(3).value(1)).with(code, value);
+        breaks_only(Premise::Terms, &first, &ending_with(changed));
+    }
+}
+
+#[test]
+fn stored_terms_broken() {
+    // The terms that TERM shows are those of the last full message.
+    let ended = short(1, "TERM", Some("ETRM"));
+    let first = plain(&[swap(1), correct(1), ended.clone()]);
+    let second = plain(&[swap(1), correct(1).with(21, "EUR"), ended]);
+    breaks_only(Premise::Terms, &first, &second);
+}
+
+#[test]
+fn the_same_swap_broken_both_ways() {
+    // A change names the first swap in one list and the second in the other.
+    for message in [correct, |n| short(n, "TERM", Some("NOVA"))] {
+        let first = ending_with(message(1));
+        let second = ending_with(message(2));
+        breaks_only(Premise::Swap, &first, &second);
+    }
+}
+
+#[test]
+fn caps_broken() {
+    let message = swap(3).with(20, "300000000");
+    let first = ending_with(message.clone());
+    let mut second = ending_with(message);
+    second.caps = [1_000_000_000; 5];
+    breaks_only(Premise::Caps, &first, &second);
+}
+
+#[test]
+fn an_opening_broken() {
+    let first = ending_with(swap(3));
+    let mut moved = ending_with(swap(3));
+    moved.tampering = (8, 2u64.to_le_bytes().to_vec());
+    assert_eq!(
+        compare_histories(&first, &moved),
+        (vec![Premise::Opening], true)
+    );
+    assert_eq!(
+        compare_histories(&moved, &moved),
+        (vec![Premise::Opening], false)
+    );
+
+    // Opening is refused, since a cap is wrong, over a ledger in use.
+    let mut refused = ending_with(swap(3));
+    let mut ledger = vec![0; length_for(5)];
+    let mut header = compare::layout::Header::opened(ledger.len(), first.caps);
+    header.next = 70;
+    compare::layout::write(&mut ledger, &header, &[]);
+    refused.ledger = ledger;
+    refused.caps = [999; 5];
+    let (broken, differ) = compare_histories(&first, &refused);
+    assert_eq!((broken[0], differ), (Premise::Opening, true));
+}
+
+#[test]
+fn lengths_broken() {
+    let first = ending_with(swap(3));
+    let second = plain(&[swap(1), swap(2)]);
+    breaks_only(Premise::Length, &first, &second);
+}
+
+#[test]
+fn premises_do_not_ask_too_much() {
+    // Refused messages may differ in all but their number.
+    let first = ending_with(swap(3).with(24, "54930084UKLVMY22DS17"));
+    let second = ending_with(short(2, "TERM", Some("term")));
+    assert_eq!(compare_histories(&first, &second), (Vec::new(), false));
+    // The names of the swaps may change places.
+    let first = plain(&[swap(1), swap(2), correct(1)]);
+    let second = plain(&[swap(2), swap(1), correct(2)]);
+    assert_eq!(compare_histories(&first, &second), (Vec::new(), false));
+}
+
+#[test]
+fn random_histories_with_one_public_change() {
+    let mut random = Random::for_test(702);
+    let mut compared = Compared::new();
+    let mut tried = 0;
+    while compared.tally.submissions < submissions(12_000) {
+        let (first, mut second) = pair_of_histories(&mut random);
+        let before = run(&mut compared, &first);
+        let Some((place, premise)) = change_one(&mut random, &before.verdicts, &mut second) else {
+            continue;
+        };
+        let after = run(&mut compared, &second);
+        let broken = broken_premises(&before, &after);
+        assert_eq!(broken, [premise], "place {place}");
+        assert!(before.tape != after.tape, "place {place}");
+        tried += 1;
+    }
+    println!("one change: {tried} pairs, {}", compared.tally);
+    assert!(tried > 50);
+}
+
+/// Changes the event time or the currency of one accepted message.
+fn change_one(
+    random: &mut Random,
+    verdicts: &[u8],
+    history: &mut History,
+) -> Option<(usize, Premise)> {
+    let place = random.below(verdicts.len());
+    let message = Message::decode(&history.calls[place].message)?;
+    let action = String::from_utf8_lossy(message.value(2)).into_owned();
+    if verdicts[place] != 0 || !matrix::writes_line(&action) {
+        return None;
+    }
+    let (code, value, premise) = if matrix::is_full(&action) && random.once_in(2) {
+        (21, random.text(3, CAPITALS), Premise::Terms)
+    } else {
+        (4, values::time(random), Premise::EventTime)
+    };
+    if message.value(code) == value {
+        return None;
+    }
+    history.calls[place].message = message.with(code, value).encode();
+    Some((place, premise))
+}

@@ -1,0 +1,228 @@
+//! Generated life cycles of many swaps on ledgers of several sizes. The core
+//! is held to the checker and both to a model of the ledger.
+
+use compare::compared::Compared;
+use compare::cycles::{next_message, Model};
+use compare::layout::{self, HIGHEST_NEXT, LARGEST_CAPACITY, LINE_SIZE};
+use compare::matrix::{self, ACTIONS};
+use compare::message::{described, Message};
+use compare::random::Random;
+use compare::tally::Tally;
+use compare::{submissions, values};
+use std::collections::BTreeSet;
+
+/// Lengths of ledgers, from one row to 400.
+const LENGTHS: [usize; 9] = [
+    224,
+    383,
+    384,
+    layout::HEADER_SIZE + 3 * 160 + 17,
+    layout::HEADER_SIZE + 8 * 160 + 159,
+    layout::HEADER_SIZE + 20 * 160,
+    layout::HEADER_SIZE + 60 * 160 + 1,
+    layout::HEADER_SIZE + 150 * 160,
+    layout::HEADER_SIZE + 400 * 160,
+];
+
+/// What the life cycles have met.
+#[derive(Default)]
+struct Met {
+    tally: Tally,
+    pairs: BTreeSet<(String, String)>,
+    steps: BTreeSet<(String, u8, bool)>,
+}
+
+/// A ledger in use, with its model.
+struct Ledger {
+    compared: Compared,
+    model: Model,
+    utis: Vec<Vec<u8>>,
+    before: Vec<u8>,
+}
+
+impl Ledger {
+    fn open(random: &mut Random, length: usize, swaps: usize) -> Ledger {
+        let caps = values::caps(random);
+        let before = random.bytes(length);
+        let mut compared = Compared::new();
+        compared.set_ledger(&before);
+        assert_eq!(compared.open(&caps).verdict, 0);
+        let ledger = Ledger {
+            compared,
+            model: Model::opened(length, caps),
+            utis: values::utis(random, swaps),
+            before,
+        };
+        ledger.check_ledger();
+        ledger
+    }
+
+    /// Submits one message, holds both to the model, asks two statuses.
+    fn step(&mut self, random: &mut Random, met: &mut Met) {
+        let message = next_message(random, &self.model, &self.utis);
+        let tape = tape_before(random);
+        let status = self.model.status(message.value(1));
+        self.compared.set_tape(&tape);
+        let answer = self.compared.submit(&message.encode());
+        let due = self.model.submit(&message, tape.len());
+        let text = described(&message.encode());
+        assert_eq!(answer.verdict, due.verdict, "{text}");
+        assert_eq!(answer.identifier, due.identifier, "{text}");
+        assert_eq!((answer.status, answer.element), (0, 0));
+        match due.line {
+            Some(line) => assert_eq!(self.compared.tape()[..LINE_SIZE], line),
+            None => assert_eq!(self.compared.tape(), tape),
+        }
+        self.check_row(message.value(1));
+        self.ask(message.value(1));
+        let other = random.pick(&self.utis).clone();
+        self.ask(&other);
+        met.note(&message, status, answer.verdict);
+    }
+
+    /// The swap's row and the header are as the model says.
+    fn check_row(&self, uti: &[u8]) {
+        let ledger = self.compared.ledger();
+        assert_eq!(ledger[..layout::HEADER_SIZE], self.model.header.encode());
+        if let Some(row) = self.model.row(uti) {
+            assert_eq!(
+                ledger[layout::row_range(row)],
+                self.model.rows[row].encode()
+            );
+        }
+    }
+
+    fn ask(&mut self, uti: &[u8]) {
+        let answer = self.compared.status(uti);
+        assert_eq!((answer.verdict, answer.element), (0, 0));
+        assert_eq!(answer.status, self.model.status(uti));
+        assert_eq!(answer.identifier, self.model.identifier(uti));
+    }
+
+    /// Every byte of the ledger is as the model says, or as before opening.
+    fn check_ledger(&self) {
+        let mut due = self.before.clone();
+        layout::write(&mut due, &self.model.header, &self.model.rows);
+        assert!(self.compared.ledger() == due);
+    }
+}
+
+impl Met {
+    fn note(&mut self, message: &Message, status: u8, verdict: u8) {
+        let text = |code: u8| String::from_utf8_lossy(message.value(code)).into_owned();
+        if verdict == 0 {
+            self.pairs.insert((text(2), text(3)));
+        }
+        if verdict == 0 || verdict == 15 {
+            self.steps.insert((text(2), status, verdict == 0));
+        }
+    }
+
+    /// Every pair of the matrix was accepted, and every step taken or refused
+    /// as the statuses say.
+    fn check(&self) {
+        let pairs = ACTIONS.iter().flat_map(|action| {
+            let events = matrix::events_of(action).iter();
+            events.map(|event| (action.to_string(), event.unwrap_or("").to_string()))
+        });
+        assert_eq!(self.pairs, pairs.collect());
+        let steps = ACTIONS.iter().flat_map(|action| {
+            let step = |status| {
+                (
+                    action.to_string(),
+                    status,
+                    matrix::step(action, status).is_some(),
+                )
+            };
+            (0..=4).map(step)
+        });
+        assert_eq!(self.steps, steps.collect());
+    }
+}
+
+/// A tape buffer with old bytes, seldom too short.
+fn tape_before(random: &mut Random) -> Vec<u8> {
+    let length = if random.once_in(15) {
+        random.below(LINE_SIZE)
+    } else {
+        random.between(LINE_SIZE, 200)
+    };
+    random.bytes(length)
+}
+
+#[test]
+fn life_cycles_on_ledgers_of_several_sizes() {
+    let mut random = Random::for_test(20_240_301);
+    let mut met = Met::default();
+    let wanted = submissions(90_000);
+    let lives = 600;
+    while met.tally.submissions < wanted {
+        let length = *random.pick(&LENGTHS);
+        let swaps = (layout::capacity(length) + 2).min(90);
+        let mut ledger = Ledger::open(&mut random, length, swaps);
+        for _ in 0..lives {
+            ledger.step(&mut random, &mut met);
+        }
+        ledger.check_ledger();
+        met.tally.add(&ledger.compared.tally);
+    }
+    println!("life cycles: {}", met.tally);
+    met.check();
+    for verdict in [0, 4, 10, 15, 16, 17] {
+        assert!(met.tally.verdict(verdict) > 0, "verdict {verdict}");
+    }
+}
+
+#[test]
+fn a_ledger_of_400_rows_fills_up() {
+    let mut random = Random::for_test(20_240_302);
+    let mut met = Met::default();
+    let mut ledger = Ledger::open(&mut random, layout::length_for(400), 430);
+    for _ in 0..6_000 {
+        ledger.step(&mut random, &mut met);
+    }
+    ledger.check_ledger();
+    println!("400 rows: {}", ledger.compared.tally);
+    assert_eq!(ledger.model.rows.len(), 400);
+    assert!(ledger.compared.tally.verdict(sdr::LEDGER_FULL) > 0);
+}
+
+#[test]
+fn a_ledger_longer_than_the_largest_capacity() {
+    let mut random = Random::for_test(20_240_303);
+    let mut met = Met::default();
+    let length = layout::length_for(LARGEST_CAPACITY) + 7 * 160 + 3;
+    let mut ledger = Ledger::open(&mut random, length, 12);
+    assert_eq!(ledger.model.header.capacity, 100_000);
+    for _ in 0..60 {
+        ledger.step(&mut random, &mut met);
+    }
+    ledger.check_ledger();
+    println!("longest ledger: {}", ledger.compared.tally);
+    assert!(ledger.compared.tally.verdict(0) > 0);
+}
+
+#[test]
+fn identifiers_run_out() {
+    let mut random = Random::for_test(20_240_304);
+    let mut met = Met::default();
+    let mut ledger = Ledger::open(&mut random, layout::length_for(30), 40);
+    ledger.model.header.next = HIGHEST_NEXT - 100;
+    ledger.before[..layout::HEADER_SIZE].copy_from_slice(&ledger.model.header.encode());
+    ledger.compared.set_ledger(&ledger.before);
+    for _ in 0..1_500 {
+        ledger.step(&mut random, &mut met);
+    }
+    ledger.check_ledger();
+    println!("spent identifiers: {}", ledger.compared.tally);
+    assert_eq!(ledger.model.header.next, HIGHEST_NEXT);
+    assert!(ledger.compared.tally.verdict(sdr::IDENTIFIERS_SPENT) > 0);
+    // Nothing but PRTO is accepted then.
+    let ported = ledger
+        .model
+        .rows
+        .iter()
+        .filter(|row| row.status == sdr::PORTED);
+    let accepted = ledger.compared.tally.verdict(0) - ledger.compared.tally.openings;
+    assert_eq!(accepted, 100 + ported.count() as u64);
+}

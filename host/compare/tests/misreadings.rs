@@ -1,0 +1,147 @@
+//! The five misreadings that the paper names, one test each. What is expected
+//! is derived by hand.
+
+use compare::compared::Compared;
+use compare::layout::{length_for, u32_at, u64_at, HIGHEST_NEXT, LINE_SIZE};
+use compare::layout::{NOTIONAL_IN_LINE, PLUS_IN_LINE};
+use compare::sound::{plain_new, plain_short};
+use sdr::{ERRORED, LIVE};
+
+/// A fresh ledger of three rows with all caps alike, and a tape buffer.
+fn opened(cap: u64) -> Compared {
+    let mut compared = Compared::new();
+    compared.set_ledger(&vec![0xee; length_for(3)]);
+    compared.set_tape(&[b'x'; LINE_SIZE]);
+    assert_eq!(compared.open(&[cap; 5]).verdict, 0);
+    compared
+}
+
+/// Status, last identifier and terms of the first row.
+fn first_row(compared: &Compared) -> (u8, u64, &[u8]) {
+    let ledger = compared.ledger();
+    (
+        ledger[64],
+        u64_at(ledger, 64 + 54),
+        &ledger[64 + 62..64 + 155],
+    )
+}
+
+/// Rows in use and next identifier.
+fn counts(compared: &Compared) -> (u32, u64) {
+    (u32_at(compared.ledger(), 0), u64_at(compared.ledger(), 8))
+}
+
+#[test]
+fn the_exact_amount_is_compared_with_the_cap() {
+    let mut compared = opened(250_000_000);
+    let message = plain_new().with(20, "250400000");
+    let answer = compared.submit(&message.encode());
+    assert_eq!((answer.verdict, answer.identifier), (0, 1));
+    let line: &[u8; LINE_SIZE] = b"000000000001            NEWTTRAD2024-03-01T10:15:30Z\
+        2024-03-01T10:15:30Z2024-03-042029-03-04Y FFF                        IR\
+        0000000250000000+USD  \n";
+    assert_eq!(compared.tape(), line);
+    assert_eq!(first_row(&compared), (LIVE, 1, &line[52..145]));
+    assert_eq!(counts(&compared), (1, 2));
+
+    // Equal to the cap shows no plus, though it is shown alike.
+    let message = message
+        .with(1, "1000000000SWAP0000000002")
+        .with(20, "250000000");
+    assert_eq!(compared.submit(&message.encode()).identifier, 2);
+    assert_eq!(compared.tape()[NOTIONAL_IN_LINE], *b"0000000250000000");
+    assert_eq!(compared.tape()[PLUS_IN_LINE], b' ');
+}
+
+#[test]
+fn a_notional_of_25_digits_goes_in() {
+    let mut compared = opened(1_000_000_000_000_000);
+    // In 64 bits this is 2^64 + 5 * 10^9, which would wrap to 5,000,000,000.
+    let message = plain_new().with(20, "18446744078709551616");
+    assert_eq!(compared.submit(&message.encode()).verdict, 0);
+    assert_eq!(compared.tape()[NOTIONAL_IN_LINE], *b"1000000000000000");
+    assert_eq!(compared.tape()[PLUS_IN_LINE], b'+');
+
+    // Counted in the fifth decimal place, 10^15 is beyond 64 bits.
+    let message = message.with(1, "1000000000SWAP0000000002");
+    let message = message.with(20, "00000999974999999999.99999");
+    assert_eq!(compared.submit(&message.encode()).verdict, 0);
+    assert_eq!(compared.tape()[NOTIONAL_IN_LINE], *b"0999950000000000");
+    assert_eq!(compared.tape()[PLUS_IN_LINE], b' ');
+
+    let message = message.with(1, "1000000000SWAP0000000003");
+    let message = message.with(20, "9999999999999999999999999");
+    assert_eq!(compared.submit(&message.encode()).verdict, 0);
+    assert_eq!(compared.tape()[NOTIONAL_IN_LINE], *b"1000000000000000");
+    assert_eq!(compared.tape()[PLUS_IN_LINE], b'+');
+}
+
+#[test]
+fn only_revi_brings_back_an_errored_swap() {
+    let mut compared = opened(250_000_000);
+    let new = plain_new();
+    assert_eq!(compared.submit(&new.encode()).identifier, 1);
+    assert_eq!(
+        compared
+            .submit(&plain_short("EROR", None).encode())
+            .identifier,
+        2
+    );
+    assert_eq!(first_row(&compared).0, ERRORED);
+
+    let again = compared.submit(&new.encode());
+    assert_eq!((again.verdict, again.element, again.identifier), (15, 0, 0));
+    assert_eq!(first_row(&compared).0, ERRORED);
+    assert_eq!(counts(&compared), (1, 3));
+
+    let revive = new.with(2, "REVI").without(3);
+    assert_eq!(compared.submit(&revive.encode()).identifier, 3);
+    assert_eq!(compared.tape()[..28], *b"000000000003000000000002REVI");
+    let (status, identifier, _) = first_row(&compared);
+    assert_eq!((status, identifier), (LIVE, 3));
+    assert_eq!(counts(&compared), (1, 4));
+}
+
+#[test]
+fn the_form_is_checked_before_the_status() {
+    let mut compared = opened(250_000_000);
+    // An unknown swap is modified (15) with a malformed currency (9).
+    let message = plain_new().with(2, "MODI").with(21, "usd");
+    let answer = compared.submit(&message.encode());
+    assert_eq!((answer.verdict, answer.element), (9, 21));
+    let answer = compared.submit(&message.with(21, "USD").encode());
+    assert_eq!((answer.verdict, answer.element), (15, 0));
+    assert_eq!(counts(&compared), (0, 1));
+    assert_eq!(compared.tape(), [b'x'; LINE_SIZE]);
+}
+
+#[test]
+fn spent_identifiers_are_found_before_the_row_is_written() {
+    let mut compared = opened(250_000_000);
+    assert_eq!(compared.submit(&plain_new().encode()).identifier, 1);
+    let mut ledger = compared.ledger().to_vec();
+    ledger[8..16].copy_from_slice(&HIGHEST_NEXT.to_le_bytes());
+    compared.set_ledger(&ledger);
+    compared.set_tape(&[b'x'; LINE_SIZE]);
+
+    let other = plain_new().with(1, "1000000000SWAP0000000002");
+    let changed = plain_new().with(2, "MODI").with(21, "EUR");
+    let ended = plain_short("TERM", Some("ETRM"));
+    let wrong = plain_short("EROR", None);
+    for message in [other, changed, ended, wrong] {
+        let answer = compared.submit(&message.encode());
+        assert_eq!(
+            (answer.verdict, answer.element, answer.identifier),
+            (18, 0, 0)
+        );
+        assert_eq!(compared.ledger(), ledger);
+        assert_eq!(compared.tape(), [b'x'; LINE_SIZE]);
+    }
+
+    // PRTO writes no line and is still accepted: only the status changes.
+    let answer = compared.submit(&plain_short("PRTO", Some("PTNG")).encode());
+    assert_eq!((answer.verdict, answer.identifier), (0, 0));
+    ledger[64] = sdr::PORTED;
+    assert_eq!(compared.ledger(), ledger);
+    assert_eq!(compared.tape(), [b'x'; LINE_SIZE]);
+}

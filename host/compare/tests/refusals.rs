@@ -1,0 +1,92 @@
+//! A refusal changes nothing, and empty buffers are refused.
+
+use compare::compared::Compared;
+use compare::faults::{self, Case};
+use compare::layout::{length_for, LINE_SIZE};
+use compare::matrix::ACTIONS;
+use compare::random::Random;
+use compare::sound::plain_new;
+use sdr::Answer;
+
+const CAPS: [u64; 5] = [250_000_000; 5];
+
+fn refused(verdict: u8, element: u8) -> Answer {
+    Answer {
+        verdict,
+        element,
+        ..Answer::default()
+    }
+}
+
+#[test]
+fn a_refusal_changes_nothing() {
+    let mut random = Random::for_test(901);
+    let mut compared = Compared::new();
+    for action in ACTIONS {
+        for fault in faults::all().into_iter().filter(|fault| fault.fits(action)) {
+            let mut case = Case::sound(&mut random, action);
+            let (verdict, element) = case.break_rules(&mut random, &[fault]);
+            let (ledger, tape) = (case.ledger(), case.tape());
+            compared.set_ledger(&ledger);
+            compared.set_tape(&tape);
+            let answer = compared.submit(&case.message());
+            assert_eq!(answer, refused(verdict, element), "{action} {fault:?}");
+            assert_eq!(compared.ledger(), ledger, "{action} {fault:?}");
+            assert_eq!(compared.tape(), tape, "{action} {fault:?}");
+        }
+    }
+    println!("refusals: {}", compared.tally);
+    assert_eq!(compared.tally.verdict(0), 0);
+}
+
+#[test]
+fn a_refused_opening_changes_nothing() {
+    let mut random = Random::for_test(902);
+    let mut compared = Compared::new();
+    for (length, caps) in [
+        (0, CAPS),
+        (223, CAPS),
+        (224, [999; 5]),
+        (length_for(9), [0; 5]),
+    ] {
+        let ledger = random.bytes(length);
+        compared.set_ledger(&ledger);
+        let verdict = if length < 224 { 1 } else { 2 };
+        assert_eq!(compared.open(&caps), refused(verdict, 0));
+        assert_eq!(compared.ledger(), ledger);
+    }
+}
+
+#[test]
+fn empty_buffers_are_refused() {
+    let message = plain_new().encode();
+    let mut compared = Compared::new();
+    assert_eq!(compared.open(&CAPS), refused(1, 0));
+    assert_eq!(compared.submit(&[]), refused(3, 0));
+    assert_eq!(compared.submit(&message), refused(3, 0));
+    assert_eq!(compared.status(&[]), refused(3, 0));
+    compared.set_ledger(&vec![0; length_for(1)]);
+    assert_eq!(compared.open(&CAPS), Answer::default());
+    assert_eq!(compared.submit(&[]), refused(4, 0));
+    assert_eq!(compared.submit(&message), refused(4, 0));
+    assert_eq!(compared.status(&[]), refused(9, 1));
+    compared.set_tape(&[b'x'; LINE_SIZE]);
+    assert_eq!(compared.submit(&[]), refused(5, 0));
+    assert_eq!(compared.submit(&message).verdict, 0);
+}
+
+#[test]
+fn refusals_leave_the_next_acceptance_alone() {
+    let mut compared = Compared::new();
+    compared.set_ledger(&vec![0; length_for(2)]);
+    compared.set_tape(&[b'x'; LINE_SIZE]);
+    assert_eq!(compared.open(&CAPS).verdict, 0);
+    let sound = plain_new();
+    for broken in [sound.without(2), sound.without(9), sound.with(3, "ETRM")] {
+        assert_ne!(compared.submit(&broken.encode()).verdict, 0);
+    }
+    assert_eq!(compared.submit(&sound.encode()).identifier, 1);
+    assert_eq!(compared.submit(&sound.encode()), refused(15, 0));
+    let other = sound.with(1, "1000000000SWAP0000000002");
+    assert_eq!(compared.submit(&other.encode()).identifier, 2);
+}
