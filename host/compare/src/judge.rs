@@ -17,11 +17,18 @@ pub trait Judge: Sync {
 /// The core, through its C interface.
 pub struct Core;
 
+/// The core, on copies of the buffers that are just as long: a tool that
+/// watches memory then sees every read or write outside a buffer.
+pub struct Apart;
+
 /// The separately written checker.
 pub struct Checker;
 
 /// The judges that the tests compare.
 pub const BOTH: [&dyn Judge; 2] = [&Core, &Checker];
+
+/// The judges of a watched run.
+pub const WATCHED: [&dyn Judge; 3] = [&Core, &Checker, &Apart];
 
 impl Judge for Core {
     fn name(&self) -> &'static str {
@@ -38,6 +45,32 @@ impl Judge for Core {
 
     fn status(&self, ledger: &[u8], uti: &[u8]) -> Answer {
         sdr::status(ledger, uti)
+    }
+}
+
+impl Judge for Apart {
+    fn name(&self) -> &'static str {
+        "apart"
+    }
+
+    fn open(&self, ledger: &mut [u8], caps: &[u64; 5]) -> Answer {
+        let mut own: Box<[u8]> = Box::from(&*ledger);
+        let answer = sdr::open(&mut own, caps);
+        ledger.copy_from_slice(&own);
+        answer
+    }
+
+    fn submit(&self, ledger: &mut [u8], tape: &mut [u8], message: &[u8]) -> Answer {
+        let mut own: [Box<[u8]>; 2] = [Box::from(&*ledger), Box::from(&*tape)];
+        let [own_ledger, own_tape] = &mut own;
+        let answer = sdr::submit(own_ledger, own_tape, &Box::<[u8]>::from(message));
+        ledger.copy_from_slice(own_ledger);
+        tape.copy_from_slice(own_tape);
+        answer
+    }
+
+    fn status(&self, ledger: &[u8], uti: &[u8]) -> Answer {
+        sdr::status(&Box::<[u8]>::from(ledger), &Box::<[u8]>::from(uti))
     }
 }
 

@@ -4,6 +4,7 @@ use crate::compared::{Compared, Mismatch};
 use crate::cycles::{next_message, Model};
 use crate::faults::{self, Case, Fault};
 use crate::garbage;
+use crate::judge::Judge;
 use crate::layout;
 use crate::matrix::ACTIONS;
 use crate::random::Random;
@@ -27,12 +28,12 @@ pub struct Mix {
 }
 
 impl Mix {
-    /// A run that a seed tells.
-    pub fn new(seed: u64) -> Self {
+    /// A run of these judges that a seed tells.
+    pub fn between(judges: &[&'static dyn Judge], seed: u64) -> Self {
         Mix {
             random: Random::new(seed),
-            long: Compared::new(),
-            single: Compared::new(),
+            long: Compared::between(judges),
+            single: Compared::between(judges),
             model: Model::opened(0, [0; 5]),
             utis: Vec::new(),
             faults: faults::all(),

@@ -3,6 +3,7 @@
 //! Arguments: the number of submissions and the seed. Exit status 1 says that
 //! the two differ; the report then tells where.
 
+use compare::judge::WATCHED;
 use compare::mix::Mix;
 use std::process::ExitCode;
 
@@ -19,7 +20,7 @@ fn main() -> ExitCode {
         return ExitCode::from(2);
     };
     println!("seed {seed}");
-    let mut mix = Mix::new(seed);
+    let mut mix = Mix::between(&WATCHED, seed);
     for done in 1..=submissions {
         if let Err(mismatch) = mix.step() {
             println!("submission {done} of seed {seed}: {mismatch}");
