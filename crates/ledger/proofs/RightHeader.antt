@@ -1,17 +1,20 @@
--- A right header, clause by clause. Assumes nothing.
-use Prim.Native.Nat.{ℕ, _-_, _≤_}
-use mathlib.Core.Bool.{true}
-use mathlib.Core.Path.{_≡_}
+-- A right header, clause by clause, and what the check of it tells. Assumes nothing.
+use Prim.Native.Nat.{ℕ, _≤_}
+use mathlib.Core.Bool.{Bool, true, false}
+use mathlib.Core.Path.{_≡_, refl, subst}
 use mathlib.Core.List.{List}
 use native.Mathlib.Omega.{arith}
 use lib.ListN.{length}
 use lib.Dec.{eqb, leb}
 use borrow.Author.Tests.{eqb-true, leb-true, eq-eqb, le-leb}
-use Rattle.octets.specs.Choice.{both}
+use Rattle.octets.specs.Choice.{choose, both}
 use Rattle.octets.proofs.ChoiceLaws.{both-first, both-second}
 use Rattle.values.specs.Run.{within}
 use Rattle.ledger.specs.Layout.{headerSize, rowSize, rowStart, shortestLedger, lastIdentifier}
-use Rattle.ledger.specs.Header.{rowsInUse, firstRow, nextIdentifier, sizeOfRows, capacityIn, capsIn, areCaps, capacityFor, headerRight}
+use Rattle.ledger.specs.declared.header.Header.{Header}
+use Rattle.ledger.specs.declared.header.HeaderCheck.{HeaderCheck}
+use Rattle.ledger.specs.declared.header.HeaderCheck.the-variants.{Fault, Value}
+use Rattle.ledger.specs.Header.{rowsInUse, firstRow, nextIdentifier, sizeOfRows, capacityIn, capsIn, areCaps, capacityFor, headerRight, headerOf, checkedHeader}
 
 pub record RightHeader (largest : ℕ) (l : List ℕ) : Type 0 where
   pub long : shortestLedger ≤ length l
@@ -74,3 +77,24 @@ module _ (largest : ℕ) (l : List ℕ) (h : RightHeader largest l) where
   pub capacity-most : capacityIn l ≤ largest
   unfolding capacityFor
   capacity-most = omega (arith, h .capacity)
+
+-- ---- what the check of a ledger tells
+
+abbrev pub HeaderTold : ℕ → List ℕ → HeaderCheck → Type 0
+HeaderTold largest l Fault = headerRight largest l ≡ false
+HeaderTold largest l (Value h) = (headerRight largest l ≡ true) × (h ≡ headerOf l)
+
+pub header-told : (largest : ℕ) (l : List ℕ) (r : HeaderCheck) → checkedHeader largest l ≡ r → HeaderTold largest l r
+unfolding checkedHeader
+header-told largest l r e = subst (HeaderTold largest l) e (by (headerRight largest l) refl)
+  where
+    by : (b : Bool) → headerRight largest l ≡ b → HeaderTold largest l (choose b (Value (headerOf l)) Fault)
+    by true g = (g, refl)
+    by false g = g
+
+-- the rows in use lie within the ledger
+pub used-fit : (largest : ℕ) (l : List ℕ) (h : Header) → headerRight largest l ≡ true → h ≡ headerOf l → rowStart (h .rows) ≤ length l
+unfolding headerOf
+used-fit largest l h e g =
+    let right : RightHeader largest l = right-header largest l e in
+    rw g (omega (arith, rows-fit largest l right, right .rows))

@@ -1,9 +1,8 @@
 -- The decision, rule by rule: where it stops, and what is left where it goes on. Assumes nothing.
 use Prim.Native.Nat.{ℕ}
 use mathlib.Core.Bool.{Bool, true, false}
-use mathlib.Core.Path.{_≡_, refl, ap, _∙_}
+use mathlib.Core.Path.{_≡_, refl, ap, subst}
 use mathlib.Core.List.{List, _++_}
-use native.Mathlib.Omega.{arith}
 use lib.ListN.{length}
 use lib.Dec.{eqb, ltb}
 use borrow.Author.Tests.{eqb-true, eqb-false}
@@ -11,8 +10,9 @@ use Rattle.octets.specs.Choice.{choose}
 use Rattle.actions.specs.declared.Action.{Action}
 use Rattle.actions.specs.declared.Checked.{Checked}
 use Rattle.actions.specs.declared.Checked.the-variants as checked
+use Rattle.rules.specs.declared.Judged.{Judged}
 use Rattle.rules.specs.declared.Judged.the-variants as judged
-use Rattle.rules.specs.Findings.{firstBroken}
+use Rattle.rules.specs.Findings.{Finding, firstBroken}
 use Rattle.rules.specs.Rules as rules
 use Rattle.rules.specs.Rules.{rulesFor, verdict, conclude}
 use Rattle.rules.proofs.FindingLaws.{all-passed, passed-then, broken-then}
@@ -22,8 +22,9 @@ use Rattle.ledger.specs.Header.{headerRight}
 use Rattle.submission.specs.Verdicts.{ledgerWrong, tapeShort, rowWrong, notAdmitted, otherTime, ledgerFull, identifiersSpent}
 use Rattle.submission.specs.Opening.{Limits}
 use Rattle.submission.specs.Submission.{swapOf, actionIn, hasWrongRow, isNotAdmitted, hasOtherTime, findsFull, findsSpent, swapRules, afterRules, submissionRules, verdictOn}
+use Rattle.repository.specs.declared.decide.Decision.{Decision}
 use Rattle.repository.specs.declared.decide.Decision.the-variants.{Refused, Value}
-use Rattle.repository.specs.Decision.{stepFor, decided, decision, afterMessage, refusedAs}
+use Rattle.repository.specs.Decision.{stepFor, decided, decision, afterMessage}
 
 -- ---- rules 14 to 18
 
@@ -62,40 +63,25 @@ refuses : (n e : ℕ) (r : Checked) (l m : List ℕ) → eqb n 0 ≡ false → d
 refuses n e (checked.Fault code) l m h = refl
 refuses n e (checked.Value a) l m h = rw h
 
-module _ (longest : ℕ) (l m : List ℕ) where
-  -- a refusal under a rule of the message
-  refuses-message : (r : Checked) (v e : ℕ) → conclude (firstBroken (rulesFor r longest m)) r ≡ judged.Refused v e → decided (firstBroken (rulesFor r longest m ++ afterRules r l m)) r l m ≡ Refused v e
-  unfolding rulesFor
-  refuses-message (checked.Fault code) v e g = ap refusedAs g
-  refuses-message (checked.Value a) v e g = by (eqb (firstBroken (rulesFor (checked.Value a) longest m) .0) 0) refl g
-    where
-      by : (b : Bool) → eqb (firstBroken (rulesFor (checked.Value a) longest m) .0) 0 ≡ b
-          → choose b (judged.Value a) (judged.Refused (firstBroken (rulesFor (checked.Value a) longest m) .0) (firstBroken (rulesFor (checked.Value a) longest m) .1)) ≡ judged.Refused v e
-          → decided (firstBroken (rulesFor (checked.Value a) longest m ++ swapRules a l m)) (checked.Value a) l m ≡ Refused v e
-      by true h j =
-          let z : _≡_ {A = ℕ} 0 1 = cc in
-          absurd (omega arith)
-      by false h j = rw (broken-then (rulesFor (checked.Value a) longest m) (swapRules a l m) (eqb-false _ _ h), h) (ap refusedAs j)
+-- what is left where a message has been judged: nothing where it is refused, rules 14 to 18 where it is not
+abbrev pub Left : List ℕ → List ℕ → Decision → Judged → Type 0
+Left l m d (judged.Refused v e) = d ≡ Refused v e
+Left l m d (judged.Value a) = d ≡ afterMessage a l m
 
-  -- the message breaks none of its rules
-  passes-message : (r : Checked) (a : Action) → conclude (firstBroken (rulesFor r longest m)) r ≡ judged.Value a → decided (firstBroken (rulesFor r longest m ++ afterRules r l m)) r l m ≡ afterMessage a l m
-  unfolding afterMessage
-  passes-message (checked.Fault code) a g =
-      let z : _≡_ {A = ℕ} 0 1 = cc in
-      absurd (omega arith)
-  passes-message (checked.Value b) a g = by (eqb (firstBroken (rulesFor (checked.Value b) longest m) .0) 0) refl g
-    where
-      by : (t : Bool) → eqb (firstBroken (rulesFor (checked.Value b) longest m) .0) 0 ≡ t
-          → choose t (judged.Value b) (judged.Refused (firstBroken (rulesFor (checked.Value b) longest m) .0) (firstBroken (rulesFor (checked.Value b) longest m) .1)) ≡ judged.Value a
-          → decided (firstBroken (rulesFor (checked.Value b) longest m ++ swapRules b l m)) (checked.Value b) l m ≡ decided (firstBroken (swapRules a l m)) (checked.Value a) l m
-      by true h j =
-          let all = all-passed (rulesFor (checked.Value b) longest m) (differ (checked.Value b) longest m) (eqb-true _ _ h) in
-          let same : b ≡ a = cc in
-          ap (λ v. decided v (checked.Value b) l m) (passed-then (rulesFor (checked.Value b) longest m) (swapRules b l m) all)
-          ∙ ap (λ c. decided (firstBroken (swapRules c l m)) (checked.Value c) l m) same
-      by false h j =
-          let z : _≡_ {A = ℕ} 0 1 = cc in
-          absurd (omega arith)
+module _ (longest : ℕ) (l m : List ℕ) where
+  module _ (a : Action) where
+    abbrev rs : List (ℕ × Finding)
+    rs = rulesFor (checked.Value a) longest m
+
+    left-with : (b : Bool) → eqb (firstBroken rs .0) 0 ≡ b → Left l m (decided (firstBroken (rs ++ swapRules a l m)) (checked.Value a) l m) (choose b (judged.Value a) (judged.Refused (firstBroken rs .0) (firstBroken rs .1)))
+    unfolding afterMessage
+    left-with true h = ap (λ v. decided v (checked.Value a) l m) (passed-then rs (swapRules a l m) (all-passed rs (differ (checked.Value a) longest m) (eqb-true _ _ h)))
+    left-with false h = rw (broken-then rs (swapRules a l m) (eqb-false _ _ h), h)
+
+  left-by : (r : Checked) → Left l m (decided (firstBroken (rulesFor r longest m ++ afterRules r l m)) r l m) (conclude (firstBroken (rulesFor r longest m)) r)
+  unfolding rulesFor
+  left-by (checked.Fault code) = refl
+  left-by (checked.Value a) = left-with a (eqb (firstBroken (rs a) .0) 0) refl
 
 module _ (limits : Limits) (l t m : List ℕ) where
   pub header-stop : headerRight (limits .largest) l ≡ false → decision limits l t m ≡ Refused ledgerWrong 0
@@ -112,10 +98,6 @@ module _ (limits : Limits) (l t m : List ℕ) where
       unfolding decision verdictOn submissionRules firstBroken
       left = rw (header, tape)
 
-      pub message-stop : (v e : ℕ) → rules.judged (limits .longest) m ≡ judged.Refused v e → decision limits l t m ≡ Refused v e
+      pub message-left : (j : Judged) → rules.judged (limits .longest) m ≡ j → Left l m (decision limits l t m) j
       unfolding rules.judged verdict
-      message-stop v e g = left ∙ refuses-message (limits .longest) l m (actionIn m) v e g
-
-      pub message-passes : (a : Action) → rules.judged (limits .longest) m ≡ judged.Value a → decision limits l t m ≡ afterMessage a l m
-      unfolding rules.judged verdict
-      message-passes a g = left ∙ passes-message (limits .longest) l m (actionIn m) a g
+      message-left j e = subst (Left l m (decision limits l t m)) e (rw left (left-by (limits .longest) l m (actionIn m)))

@@ -15,8 +15,8 @@ use Rattle.actions.specs.declared.Checked.{Checked}
 use Rattle.actions.specs.declared.Checked.the-variants as checked
 use Rattle.actions.specs.Actions.{isFull, isNew, writesLine}
 use Rattle.actions.specs.Statuses.{nextStatus}
-use Rattle.ledger.specs.Layout.{u32, utiSize, rowStart}
 use Rattle.notional.specs.Masking.{largestCap}
+use Rattle.ledger.specs.Layout.{u32, utiSize, rowStart}
 use Rattle.ledger.specs.declared.header.Caps.{Caps}
 use Rattle.ledger.specs.declared.header.Header.{Header}
 use Rattle.ledger.specs.Header.{rowsInUse, nextIdentifier, capsIn, capFor, areCaps, headerOf}
@@ -34,16 +34,19 @@ use Rattle.repository.specs.declared.decide.Decision.the-variants.{Refus
 use Rattle.repository.specs.Answers.{submissionAnswer}
 use Rattle.repository.specs.Decision.{swapIn, stepFor, decided, decision, decisionAnswer, Fitting}
 
--- ---- a step by what was read
+-- ---- what was read for a step
 
+-- a cap that the header has is one that masking takes
 pub cap-fits : (caps : Caps) (v : List ℕ) (cap : ℕ) → areCaps caps ≡ true → cap ≡ capFor caps v → cap ≤ largestCap
 cap-fits caps v cap e g = rw g (cap-for-largest caps e v)
 
+-- swap, header and next status are what the step takes
 pub step-is : (a : Action) (l m : List ℕ) (s : Swap) (h : Header) (status : ℕ) → s ≡ swapIn l (swapOf m) → h ≡ headerOf l → status ≡ nextStatus a (swapStatus l (swapOf m))
     → _≡_ {A = Step} (record { action = a; place = s .place; status = status; previous = s .identifier; rows = h .rows; next = h .next; caps = h .caps }) (stepFor a l m)
 unfolding headerOf
 step-is a l m s h status e g n = rw (e, g, n)
 
+-- the value that was looked up fits the row
 pub uti-fits : (u v : List ℕ) → length v ≤ utiSize → u ≡ v → length u ≤ utiSize
 uti-fits u v h e = rw e h
 
@@ -86,22 +89,25 @@ module _ (limits : Limits) (l t m : List ℕ) where
   -- ---- an accepted message
 
   -- where the decision is to go on, the message is accepted, and the step is the one of its action
-  accepts : (s : Step) (r : Checked) → actionIn m ≡ r → decided (verdictOn limits l t m) r l m ≡ Value s → (c : Accepting limits l t m) × (s ≡ stepFor (c .action) l m)
-  accepts s (checked.Fault code) g e =
-      let z : _≡_ {A = ℕ} 0 1 = cc in
-      absurd (omega arith)
-  accepts s (checked.Value a) g e = by (eqb (verdictOn limits l t m .0) 0) refl e
+  abbrev Accepts : Decision → Type 0
+  Accepts (Refused v e) = Unit {0}
+  Accepts (Value s) = (c : Accepting limits l t m) × (s ≡ stepFor (c .action) l m)
+
+  accepts-by : (r : Checked) → actionIn m ≡ r → Accepts (decided (verdictOn limits l t m) r l m)
+  accepts-by (checked.Fault code) g = tt
+  accepts-by (checked.Value a) g = by (eqb (verdictOn limits l t m .0) 0) refl
     where
-      by : (b : Bool) → eqb (verdictOn limits l t m .0) 0 ≡ b → choose b (Value (stepFor a l m)) (Refused (verdictOn limits l t m .0) (verdictOn limits l t m .1)) ≡ Value s → (c : Accepting limits l t m) × (s ≡ stepFor (c .action) l m)
-      by true h f =
+      by : (b : Bool) → eqb (verdictOn limits l t m .0) 0 ≡ b → Accepts (choose b (Value (stepFor a l m)) (Refused (verdictOn limits l t m .0) (verdictOn limits l t m .1)))
+      by true h =
           let c : Accepting limits l t m = accepting limits l t m (eqb-true _ _ h) in
           let both : checked.Value a ≡ checked.Value (c .action) = sym g ∙ c .reads in
           let same : a ≡ c .action = cc in
-          let own : s ≡ stepFor a l m = cc in
-          (c, own ∙ ap (λ b. stepFor b l m) same)
-      by false h f =
-          let z : _≡_ {A = ℕ} 0 1 = cc in
-          absurd (omega arith)
+          (c, ap (λ b. stepFor b l m) same)
+      by false h = tt
+
+  accepts : (d : Decision) → decision limits l t m ≡ d → Accepts d
+  unfolding decision
+  accepts d e = subst Accepts e (accepts-by (actionIn m) refl)
 
   module _ (a : Action) (f : Fits limits l t m a) (small : limits .largest < 256 ^ u32) where
     -- a new swap stands behind the rows in use, any other one where it was found
@@ -129,9 +135,8 @@ module _ (limits : Limits) (l t m : List ℕ) where
 
   -- reading has decided: writing cannot fail
   pub fitting : (s : Step) → limits .largest < 256 ^ u32 → decision limits l t m ≡ Value s → Fitting l t m s
-  unfolding decision
   fitting s small e =
-      let c = accepts s (actionIn m) refl e in
+      let c = accepts (Value s) e in
       subst (λ x. Fitting l t m x) (sym (c .1)) (fitting-step (c .0 .action) (fits limits l t m (c .0)) small)
 
 -- ---- what the writes of a step come to

@@ -1,7 +1,7 @@
 -- Laws of the swap's look-up in specs/Decision.antt. Assumes nothing.
 use Prim.Native.Nat.{ℕ, _+_, _-_, _<_, _≤_}
 use mathlib.Core.Bool.{Bool, true, false}
-use mathlib.Core.Path.{_≡_, refl, ap}
+use mathlib.Core.Path.{_≡_, refl, ap, subst}
 use mathlib.Core.List.{List}
 use native.Mathlib.Omega.{arith}
 use lib.ListN.{length}
@@ -12,44 +12,13 @@ use Rattle.values.specs.Run.{within}
 use Rattle.actions.specs.Statuses.{unknown, live, ported}
 use Rattle.ledger.specs.Layout.{rowStart}
 use Rattle.ledger.specs.declared.header.Header.{Header}
-use Rattle.ledger.specs.declared.header.HeaderCheck.the-variants as header
-use Rattle.ledger.specs.Header.{rowsInUse, nextIdentifier, headerRight, headerOf, checkedHeader}
+use Rattle.ledger.specs.Header.{rowsInUse, nextIdentifier, headerOf}
 use Rattle.ledger.specs.Rows.{rowAt, statusOf, identifierOf, placeOf, isKnown, swapStatus, swapIdentifier}
-use Rattle.ledger.proofs.RightHeader.{RightHeader, right-header, rows-fit}
 use Rattle.submission.specs.Submission.{rowRight, hasWrongRow}
 use Rattle.repository.specs.declared.swap.Swap.{Swap}
+use Rattle.repository.specs.declared.swap.SwapCheck.{SwapCheck}
 use Rattle.repository.specs.declared.swap.SwapCheck.the-variants.{Fault, Value}
 use Rattle.repository.specs.Decision.{swapIn, checkedSwap}
-
--- ---- what the check of the header tells
-
-module _ (largest : ℕ) (l : List ℕ) where
-  pub header-fault : checkedHeader largest l ≡ header.Fault → headerRight largest l ≡ false
-  unfolding checkedHeader
-  header-fault e = by (headerRight largest l) e
-    where
-      by : (b : Bool) → choose b (header.Value (headerOf l)) header.Fault ≡ header.Fault → b ≡ false
-      by true g =
-          let z : _≡_ {A = ℕ} 0 1 = cc in
-          absurd (omega arith)
-      by false g = refl
-
-  pub header-value : (h : Header) → checkedHeader largest l ≡ header.Value h → (headerRight largest l ≡ true) × (h ≡ headerOf l)
-  unfolding checkedHeader
-  header-value h e = by (headerRight largest l) e
-    where
-      by : (b : Bool) → choose b (header.Value (headerOf l)) header.Fault ≡ header.Value h → (b ≡ true) × (h ≡ headerOf l)
-      by true g = (refl, cc)
-      by false g =
-          let z : _≡_ {A = ℕ} 0 1 = cc in
-          absurd (omega arith)
-
-  -- the rows in use lie within the ledger
-  pub used-fit : (h : Header) → headerRight largest l ≡ true → h ≡ headerOf l → rowStart (h .rows) ≤ length l
-  unfolding headerOf
-  used-fit h e g =
-      let right : RightHeader largest l = right-header largest l e in
-      rw g (omega (arith, rows-fit largest l right, right .rows))
 
 -- the row of a known swap lies within the ledger
 pub known-fits : (l u : List ℕ) (h : Header) → h ≡ headerOf l → rowStart (h .rows) ≤ length l → isKnown l u ≡ true → rowStart (placeOf l u + 1) ≤ length l
@@ -69,26 +38,17 @@ row-right-is l k next status identifier n s i = rw (n, s, i)
 
 -- ---- what the check of the swap tells
 
-module _ (l u : List ℕ) where
-  pub swap-fault : checkedSwap l u ≡ Fault → hasWrongRow l u ≡ true
-  unfolding checkedSwap
-  swap-fault e = by (hasWrongRow l u) e
-    where
-      by : (b : Bool) → choose b Fault (Value (swapIn l u)) ≡ Fault → b ≡ true
-      by true g = refl
-      by false g =
-          let z : _≡_ {A = ℕ} 0 1 = cc in
-          absurd (omega arith)
+abbrev pub SwapTold : List ℕ → List ℕ → SwapCheck → Type 0
+SwapTold l u Fault = hasWrongRow l u ≡ true
+SwapTold l u (Value s) = (hasWrongRow l u ≡ false) × (s ≡ swapIn l u)
 
-  pub swap-value : (s : Swap) → checkedSwap l u ≡ Value s → (hasWrongRow l u ≡ false) × (s ≡ swapIn l u)
-  unfolding checkedSwap
-  swap-value s e = by (hasWrongRow l u) e
-    where
-      by : (b : Bool) → choose b Fault (Value (swapIn l u)) ≡ Value s → (b ≡ false) × (s ≡ swapIn l u)
-      by true g =
-          let z : _≡_ {A = ℕ} 0 1 = cc in
-          absurd (omega arith)
-      by false g = (refl, cc)
+pub swap-told : (l u : List ℕ) (r : SwapCheck) → checkedSwap l u ≡ r → SwapTold l u r
+unfolding checkedSwap
+swap-told l u r e = subst (SwapTold l u) e (by (hasWrongRow l u) refl)
+  where
+    by : (b : Bool) → hasWrongRow l u ≡ b → SwapTold l u (choose b Fault (Value (swapIn l u)))
+    by true g = g
+    by false g = (g, refl)
 
 -- ---- a swap at a place
 

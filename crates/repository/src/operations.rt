@@ -1,13 +1,13 @@
 // The three operations, with the limits as parameters. Reading decides, then writing cannot fail.
 ghost use Prim.Native.Nat.{ℕ};
 ghost use mathlib.Core.Path.{_≡_};
-ghost use Rattle.submission.specs.Opening.{opened};
-ghost use Rattle.repository.specs.Answers.{limitsOf, submissionAnswer, questionAnswer};
 ghost use Rattle.octets.specs.Choice.{choose};
 ghost use Rattle.actions.specs.Actions.{writesLine};
+ghost use Rattle.submission.specs.Opening.{opened};
 ghost use Rattle.submission.specs.Submission.{submitted};
-ghost use Rattle.repository.specs.Decision.{decisionAnswer};
 ghost use Rattle.submission.specs.Status.{asked};
+ghost use Rattle.repository.specs.Answers.{limitsOf, submissionAnswer, questionAnswer};
+ghost use Rattle.repository.specs.Decision.{decisionAnswer};
 use crate::answer::Answer;
 use crate::answer::refusal;
 use crate::apply::apply;

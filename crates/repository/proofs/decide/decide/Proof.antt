@@ -7,10 +7,12 @@ use borrow.Author.Tests.{lt-ltb, le-ltb}
 use denote.Ref.{now}
 use Rattle.ledger.specs.Layout.{lineSize}
 use Rattle.ledger.specs.declared.header.Header.{Header}
+use Rattle.ledger.specs.declared.header.HeaderCheck.the-variants as check
 use Rattle.ledger.specs.Header.{headerRight, headerOf}
+use Rattle.ledger.proofs.RightHeader.{header-told, used-fit}
+use Rattle.rules.specs.declared.Judged.the-variants as judged
 use Rattle.repository.specs.Decision.{refusedAs}
-use Rattle.repository.proofs.SwapLaws.{header-fault, header-value, used-fit}
-use Rattle.repository.proofs.DecisionLaws.{header-stop, tape-stop, message-stop, message-passes}
+use Rattle.repository.proofs.DecisionLaws.{header-stop, tape-stop, message-left}
 use borrow.Author.Needs.{needs}
 use Rattle.repository.proofs.decide.decide.Statement.{statement}
 use Rattle.repository.proofs.decide.decide.Tie as tie
@@ -25,13 +27,13 @@ abbrev header : tie.After-known-told → Header
 header c = c .before .header .given .0 .0
 
 known : (c : tie.After-known-told) → (headerRight (s1 c .args .largest) (now (s1 c .args .l)) ≡ true) × (header c ≡ headerOf (now (s1 c .args .l)))
-known c = header-value _ _ (header c) (sym (c .before .before .before .read-header .ensures) ∙ c .before .header .given .1)
+known c = header-told _ _ (check.Value (header c)) (sym (c .before .before .before .read-header .ensures) ∙ c .before .header .given .1)
 
 long : (c : tie.Else1) → ltb (length (now (s1 (c .before) .args .tape))) lineSize ≡ false
 long c = le-ltb _ _ (c .if1 .left)
 
 returns : tie.Need-returns
-returns c = sym (header-stop _ _ _ _ (header-fault _ _ (sym (c .before .before .read-header .ensures) ∙ c .enum-told .given .1)))
+returns c = sym (header-stop _ _ _ _ (header-told _ _ check.Fault (sym (c .before .before .read-header .ensures) ∙ c .enum-told .given .1)))
 
 returns-2 : tie.Need-returns-2
 returns-2 c = sym (tape-stop _ _ _ _ (known (c .before) .0) (lt-ltb _ _ (c .if1 .taken)))
@@ -40,7 +42,7 @@ returns-3 : tie.Need-returns-3
 returns-3 c =
     let told = c .before .enum-told2 .given .1 in
     let j = c .before .before .before in
-    c .refused .ensures ∙ ap refusedAs told ∙ sym (message-stop _ _ _ _ (known (j .before .before) .0) (long (j .before)) _ _ (sym (j .judge .ensures) ∙ told))
+    c .refused .ensures ∙ ap refusedAs told ∙ sym (message-left _ _ _ _ (known (j .before .before) .0) (long (j .before)) (judged.Refused _ _) (sym (j .judge .ensures) ∙ told))
 
 decide-swap-requires : tie.Need-decide-swap-requires
 decide-swap-requires c κs =
@@ -50,7 +52,7 @@ decide-swap-requires c κs =
 returns-4 : tie.Need-returns-4
 returns-4 c =
     let j = c .before .before .before .before in
-    c .decide-swap .ensures ∙ sym (message-passes _ _ _ _ (known (j .before .before) .0) (long (j .before)) _ (sym (j .judge .ensures) ∙ c .before .before .judged .given .1))
+    c .decide-swap .ensures ∙ sym (message-left _ _ _ _ (known (j .before .before) .0) (long (j .before)) (judged.Value _) (sym (j .judge .ensures) ∙ c .before .before .judged .given .1))
 
 pub decide-spec : {M : Type 1} → statement M
 decide-spec =

@@ -22,9 +22,10 @@ use Rattle.ledger.specs.Rows.{rowAt, storedTime, swapStatus}
 use Rattle.submission.specs.Submission.{swapOf, hasWrongRow, isNotAdmitted, hasOtherTime, findsFull, findsSpent}
 use Rattle.submission.proofs.Acceptance.{step-known}
 use Rattle.repository.specs.declared.swap.Swap.{Swap}
+use Rattle.repository.specs.declared.swap.SwapCheck.the-variants as found
 use Rattle.repository.specs.declared.decide.Decision.the-variants.{Value}
 use Rattle.repository.specs.Decision.{swapIn, checkedSwap}
-use Rattle.repository.proofs.SwapLaws.{swap-fault, swap-value, known-fits, place-fits}
+use Rattle.repository.proofs.SwapLaws.{swap-told, known-fits, place-fits}
 use Rattle.repository.proofs.StepLaws.{step-is}
 use Rattle.repository.proofs.DecisionLaws.{row-stop, status-stop, time-stop, full-stop, spent-stop, goes-on}
 use borrow.Author.Needs.{needs}
@@ -60,14 +61,14 @@ abbrev s4 : tie.Else3 → tie.Start
 s4 c = s3 (c .before .before)
 
 -- 14: the swap's row is right
-found : (c : tie.After-find-swap) → c .find-swap .result ≡ checkedSwap (l (s0 c)) (u (s0 c))
-found c = c .find-swap .ensures ∙ ap (checkedSwap (l (s0 c))) (c .before .element .ensures .0)
+is-found : (c : tie.After-find-swap) → c .find-swap .result ≡ checkedSwap (l (s0 c)) (u (s0 c))
+is-found c = c .find-swap .ensures ∙ ap (checkedSwap (l (s0 c))) (c .before .element .ensures .0)
 
 abbrev swap : tie.After-known-told → Swap
 swap c = c .before .swap .given .0 .0
 
 known : (c : tie.After-known-told) → (hasWrongRow (l (s1 c)) (u (s1 c)) ≡ false) × (swap c ≡ swapIn (l (s1 c)) (u (s1 c)))
-known c = swap-value _ _ (swap c) (sym (found (c .before .before .before)) ∙ c .before .swap .given .1)
+known c = swap-told _ _ (found.Value (swap c)) (sym (is-found (c .before .before .before)) ∙ c .before .swap .given .1)
 
 -- 15: its status admits the action
 status : (c : tie.After-status-after) → c .status-after .result ≡ nextStatus (a (s1 (c .before))) (swapStatus (l (s1 (c .before))) (u (s1 (c .before))))
@@ -105,7 +106,7 @@ unfolding findsSpent headerOf
 spent c = c .finds-spent .ensures ∙ ap (λ (h : Header). both (writesLine (a (s4 (c .before)))) (eqb (h .next) lastIdentifier)) (s4 (c .before) .pre .0)
 
 returns : tie.Need-returns
-returns c = sym (row-stop _ _ _ (swap-fault _ _ (sym (found (c .before .before)) ∙ c .enum-told .given .1)))
+returns c = sym (row-stop _ _ _ (swap-told _ _ found.Fault (sym (is-found (c .before .before)) ∙ c .enum-told .given .1)))
 
 returns-2 : tie.Need-returns-2
 unfolding isNotAdmitted

@@ -7,9 +7,12 @@ use Rattle.elements.specs.Codes.{uti}
 use Rattle.elements.specs.Forms.{hasForm}
 use Rattle.rules.specs.Findings.{firstBroken}
 use Rattle.ledger.specs.declared.header.Header.{Header}
+use Rattle.ledger.specs.declared.header.HeaderCheck.the-variants as check
 use Rattle.ledger.specs.Header.{headerRight, headerOf}
+use Rattle.ledger.proofs.RightHeader.{header-told, used-fit}
 use Rattle.submission.specs.Status.{statusRules, asked}
-use Rattle.repository.proofs.SwapLaws.{header-fault, header-value, used-fit, swap-fault, swap-value}
+use Rattle.repository.specs.declared.swap.SwapCheck.the-variants as found
+use Rattle.repository.proofs.SwapLaws.{swap-told}
 use borrow.Author.Needs.{needs}
 use Rattle.repository.proofs.operations.status.Statement.{statement}
 use Rattle.repository.proofs.operations.status.Tie as tie
@@ -21,7 +24,7 @@ abbrev header : tie.After-known-told → Header
 header c = c .before .header .given .0 .0
 
 right : (c : tie.After-known-told) → (headerRight (s1 c .args .largest) (now (s1 c .args .l)) ≡ true) × (header c ≡ headerOf (now (s1 c .args .l)))
-right c = header-value _ _ (header c) (sym (c .before .before .before .read-header .ensures) ∙ c .before .header .given .1)
+right c = header-told _ _ (check.Value (header c)) (sym (c .before .before .before .read-header .ensures) ∙ c .before .header .given .1)
 
 abbrev k1 : tie.Else1 → tie.After-known-told
 k1 c = c .before .before
@@ -31,7 +34,7 @@ formed c = sym (c .before .has-form .ensures) ∙ not-false _ (c .if1 .left)
 
 returns : tie.Need-returns
 unfolding asked statusRules firstBroken
-returns c longest = c .refusal .ensures ∙ rw (header-fault _ _ (sym (c .before .before .before .read-header .ensures) ∙ c .before .enum-told .given .1))
+returns c longest = c .refusal .ensures ∙ rw (header-told _ _ check.Fault (sym (c .before .before .before .read-header .ensures) ∙ c .before .enum-told .given .1))
 
 returns-2 : tie.Need-returns-2
 unfolding asked statusRules firstBroken
@@ -46,13 +49,13 @@ returns-3 : tie.Need-returns-3
 unfolding asked statusRules firstBroken
 returns-3 c longest =
     let f = c .before .before .before in
-    c .refusal3 .ensures ∙ rw (right (k1 (f .before)) .0, formed (f .before), swap-fault _ _ (sym (f .find-swap .ensures) ∙ c .before .enum-told2 .given .1))
+    c .refusal3 .ensures ∙ rw (right (k1 (f .before)) .0, formed (f .before), swap-told _ _ found.Fault (sym (f .find-swap .ensures) ∙ c .before .enum-told2 .given .1))
 
 returns-4 : tie.Need-returns-4
 unfolding asked statusRules firstBroken
 returns-4 c longest =
     let f = c .before .before .before in
-    let known = swap-value _ _ (c .before .swap .given .0 .0) (sym (f .find-swap .ensures) ∙ c .before .swap .given .1) in
+    let known = swap-told _ _ (found.Value (c .before .swap .given .0 .0)) (sym (f .find-swap .ensures) ∙ c .before .swap .given .1) in
     rw (known .1, right (k1 (f .before)) .0, formed (f .before), known .0)
 
 pub status-spec : {M : Type 1} → statement M
