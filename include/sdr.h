@@ -62,8 +62,8 @@ extern "C" {
 #define SDR_SMALLEST_CAP UINT64_C(1000)
 #define SDR_LARGEST_CAP UINT64_C(1000000000000000)
 
-/* A ledger whose next identifier has come to this writes no more lines (SDR_IDENTIFIERS_SPENT); this one is never given. */
-#define SDR_LAST_IDENTIFIER UINT64_C(1000000000000)
+/* Identifiers stay below this. A ledger whose next identifier has come to it writes no more lines (SDR_IDENTIFIERS_SPENT). */
+#define SDR_IDENTIFIER_LIMIT UINT64_C(1000000000000)
 
 /* ---- The message ----
  *
