@@ -25,7 +25,7 @@ use Rattle.repository.specs.declared.decide.Decision.{Decision}
 use Rattle.repository.specs.declared.decide.Decision.the-variants.{Refused, Value}
 use Rattle.repository.specs.Answers.{identifierLimit}
 use Rattle.repository.specs.Decision.{decision, decisionAnswer}
-use Rattle.repository.proofs.StepLaws.{decision-answers, fitting}
+use Rattle.repository.proofs.AcceptanceLaws.{decision-answers, fitting}
 
 pub carried : (a b : Answer) → a ≡ b → b .identifier < identifierLimit → a .identifier < identifierLimit
 carried a b e h = rw e h

@@ -24,7 +24,7 @@ use Rattle.submission.specs.Opening.{Limits}
 use Rattle.submission.specs.Submission.{swapOf, actionIn, hasWrongRow, isNotAdmitted, hasOtherTime, findsFull, findsSpent, swapRules, afterRules, submissionRules, verdictOn}
 use Rattle.repository.specs.declared.decide.Decision.{Decision}
 use Rattle.repository.specs.declared.decide.Decision.the-variants.{Refused, Value}
-use Rattle.repository.specs.Decision.{stepFor, decided, decision, afterMessage}
+use Rattle.repository.specs.Decision.{acceptanceFor, decided, decision, afterMessage}
 
 -- ---- rules 14 to 18
 
@@ -53,7 +53,7 @@ module _ (a : Action) (l m : List ℕ) where
           unfolding afterMessage swapRules firstBroken
           spent-stop e = rw (row, status, time, full, e)
 
-          pub goes-on : findsSpent a l ≡ false → afterMessage a l m ≡ Value (stepFor a l m)
+          pub goes-on : findsSpent a l ≡ false → afterMessage a l m ≡ Value (acceptanceFor a l m)
           unfolding afterMessage swapRules firstBroken
           goes-on e = rw (row, status, time, full, e)
 

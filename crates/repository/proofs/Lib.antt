@@ -1,5 +1,5 @@
 pub mod AnswerLaws
 pub mod SwapLaws
 pub mod DecisionLaws
-pub mod StepLaws
+pub mod AcceptanceLaws
 pub mod AnswerSizes

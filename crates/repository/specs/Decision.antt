@@ -23,7 +23,7 @@ use Rattle.repository.specs.declared.answer.Answer.{Answer}
 use Rattle.repository.specs.declared.swap.Swap.{Swap}
 use Rattle.repository.specs.declared.swap.SwapCheck.{SwapCheck}
 use Rattle.repository.specs.declared.swap.SwapCheck.the-variants as found
-use Rattle.repository.specs.declared.decide.Step.{Step}
+use Rattle.repository.specs.declared.decide.Acceptance.{Acceptance}
 use Rattle.repository.specs.declared.decide.Decision.{Decision}
 use Rattle.repository.specs.declared.decide.Decision.the-variants.{Refused, Value}
 use Rattle.repository.specs.Answers.{answerOf, refusalAnswer}
@@ -41,8 +41,8 @@ checkedSwap l u = choose (hasWrongRow l u) found.Fault (found.Value (swapIn l u)
 -- ---- the decision
 
 -- what an accepted message goes on with
-abbrev pub stepFor : Action → List ℕ → List ℕ → Step
-stepFor a l m =
+abbrev pub acceptanceFor : Action → List ℕ → List ℕ → Acceptance
+acceptanceFor a l m =
     record {
       action = a;
       place = placeOf l (swapOf m);
@@ -56,7 +56,7 @@ stepFor a l m =
 -- a refusal has verdict and element
 abbrev pub decided : ℕ × ℕ → Checked → List ℕ → List ℕ → Decision
 decided v (checked.Fault code) l m = Refused (v .0) (v .1)
-decided v (checked.Value a) l m = choose (eqb (v .0) 0) (Value (stepFor a l m)) (Refused (v .0) (v .1))
+decided v (checked.Value a) l m = choose (eqb (v .0) 0) (Value (acceptanceFor a l m)) (Refused (v .0) (v .1))
 
 unfoldable pub decision : Limits → List ℕ → List ℕ → List ℕ → Decision
 decision limits l t m = decided (verdictOn limits l t m) (actionIn m) l m
@@ -75,10 +75,10 @@ abbrev pub decisionAnswer : Decision → Answer
 decisionAnswer (Refused v e) = refusalAnswer v e
 decisionAnswer (Value s) = answerOf 0 0 0 (choose (writesLine (s .action)) (s .next) 0)
 
--- ---- what the writes of a step need, so that they cannot fail
+-- ---- what the writes of an acceptance need, so that they cannot fail
 
-pub record Fitting (l t m : List ℕ) (s : Step) : Type 0 where
-  pub step : s ≡ stepFor (s .action) l m
+pub record Fitting (l t m : List ℕ) (s : Acceptance) : Type 0 where
+  pub acceptance : s ≡ acceptanceFor (s .action) l m
   pub tape : lineSize ≤ length t
   pub uti : length (swapOf m) ≤ utiSize
   -- a new swap's place is the one behind the rows in use

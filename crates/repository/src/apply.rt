@@ -13,7 +13,7 @@ ghost use Rattle.ledger.specs.Rows.{rowAt, storedTerms};
 ghost use Rattle.ledger.specs.Line.{line};
 ghost use Rattle.submission.specs.Submission.{maskedTerms, ledgerFor, lineFor};
 ghost use Rattle.repository.specs.Decision.{Fitting};
-use crate::decide::Step;
+use crate::decide::Acceptance;
 use actions::Action;
 use actions::is_full;
 use actions::writes_line;
@@ -53,23 +53,23 @@ fn publish(tape: &mut [u8], a: Action, identifier: u64, previous: u64, m: &[u8],
 }
 
 // Writes the line, the row and the header's two numbers.
-pub fn apply(l: &mut [u8], tape: &mut [u8], m: &[u8], step: Step)
-    requires { ⌜ Fitting (now l) (now tape) (now m) step ⌝ }
-    ensures { λ _. ⌜ now (l .exit) ≡ ledgerFor (step .action) (now (l .entry)) (now (m .entry)) ⌝ }
-    ensures { λ _. ⌜ now (tape .exit) ≡ choose (writesLine (step .action)) (splice (now (tape .entry)) 0 (lineFor (step .action) (now (l .entry)) (now (m .entry)))) (now (tape .entry)) ⌝ }
+pub fn apply(l: &mut [u8], tape: &mut [u8], m: &[u8], acceptance: Acceptance)
+    requires { ⌜ Fitting (now l) (now tape) (now m) acceptance ⌝ }
+    ensures { λ _. ⌜ now (l .exit) ≡ ledgerFor (acceptance .action) (now (l .entry)) (now (m .entry)) ⌝ }
+    ensures { λ _. ⌜ now (tape .exit) ≡ choose (writesLine (acceptance .action)) (splice (now (tape .entry)) 0 (lineFor (acceptance .action) (now (l .entry)) (now (m .entry)))) (now (tape .entry)) ⌝ }
 {
-    let a = step.action;
+    let a = acceptance.action;
     let mut terms = [b' '; SIZE];
-    collect_terms(&mut terms, l, step.place, a, step.caps, m);
-    publish(tape, a, step.next, step.previous, m, &terms);
+    collect_terms(&mut terms, l, acceptance.place, a, acceptance.caps, m);
+    publish(tape, a, acceptance.next, acceptance.previous, m, &terms);
     store_row(
         l,
-        step.place,
+        acceptance.place,
         a,
-        step.status,
+        acceptance.status,
         element(m, UTI),
-        step.next,
+        acceptance.next,
         &terms,
     );
-    update_header(l, a, step.rows, step.next);
+    update_header(l, a, acceptance.rows, acceptance.next);
 }

@@ -45,7 +45,7 @@ use rules::Judged;
 use rules::judge;
 
 // What an accepted message goes on with: its action, the place of the swap's row, the swap's next status and last identifier, and the header's numbers.
-pub struct Step {
+pub struct Acceptance {
     pub action: Action,
     pub place: usize,
     pub status: u8,
@@ -58,7 +58,7 @@ pub struct Step {
 // A refusal, with verdict and element, or what an accepted message goes on with.
 pub enum Decision {
     Refused(u8, u8),
-    Value(Step),
+    Value(Acceptance),
 }
 
 // A refusal under the rules of the message alone.
@@ -125,7 +125,7 @@ fn decide_swap(l: &[u8], m: &[u8], header: Header, action: Action) -> Decision
         return Decision::Refused(IDENTIFIERS_SPENT, 0);
     }
     let caps = header.caps;
-    Decision::Value(Step {
+    Decision::Value(Acceptance {
         action,
         place,
         status,

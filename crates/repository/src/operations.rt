@@ -61,13 +61,13 @@ fn answer_of(d: Decision) -> Answer
 {
     match d {
         Decision::Refused(verdict, element) => refusal(verdict, element),
-        Decision::Value(step) => {
-            let a = step.action;
+        Decision::Value(acceptance) => {
+            let a = acceptance.action;
             Answer {
                 verdict: 0,
                 element: 0,
                 status: 0,
-                identifier: line_identifier(a, step.next),
+                identifier: line_identifier(a, acceptance.next),
             }
         }
     }
@@ -80,10 +80,10 @@ pub fn submit(l: &mut [u8], tape: &mut [u8], m: &[u8], longest: usize, largest: 
     ensures { λ _. ⌜ now (tape .exit) ≡ submitted (limitsOf longest largest) (now (l .entry)) (now (tape .entry)) (now (m .entry)) .tape ⌝ }
 {
     let decision = decide(l, tape, m, longest, largest);
-    let Decision::Value(step) = decision else {
+    let Decision::Value(acceptance) = decision else {
         return answer_of(decision);
     };
-    apply(l, tape, m, step);
+    apply(l, tape, m, acceptance);
     answer_of(decision)
 }
 

@@ -179,6 +179,9 @@ pub fn status(ledger: &[u8], uti: &[u8]) -> Answer {
 }
 
 #[cfg(test)]
+mod empty;
+
+#[cfg(test)]
 mod tests {
     use super::Answer;
 

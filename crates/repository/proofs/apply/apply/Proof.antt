@@ -10,7 +10,7 @@ use Rattle.ledger.specs.Layout.{rowStart}
 use Rattle.ledger.specs.Rows.{rowAt, rowAfter, headerAfter}
 use Rattle.ledger.specs.Line.{line}
 use Rattle.submission.specs.Submission.{swapOf, termsFor}
-use Rattle.repository.proofs.StepLaws.{uti-fits, terms-are, line-is, ledger-is}
+use Rattle.repository.proofs.AcceptanceLaws.{uti-fits, terms-are, line-is, ledger-is}
 use borrow.Author.Needs.{needs}
 use Rattle.repository.proofs.apply.apply.Statement.{statement}
 use Rattle.repository.proofs.apply.apply.Tie as tie
@@ -19,8 +19,8 @@ abbrev start : tie.After-collect-terms → tie.Start
 start c = c .before .before .before .before .before .before
 
 -- the terms that were collected
-terms : (c : tie.After-collect-terms) → c .collect-terms .last .0 ≡ termsFor (start c .args .step .action) (now (start c .args .l)) (now (start c .args .m))
-terms c = c .collect-terms .ensures ∙ terms-are _ _ _ (start c .args .step) (start c .pre)
+terms : (c : tie.After-collect-terms) → c .collect-terms .last .0 ≡ termsFor (start c .args .acceptance .action) (now (start c .args .l)) (now (start c .args .m))
+terms c = c .collect-terms .ensures ∙ terms-are _ _ _ (start c .args .acceptance) (start c .pre)
 
 collect-terms-requires : tie.Need-collect-terms-requires
 collect-terms-requires c κs =
@@ -56,15 +56,15 @@ returns c =
     let k = t1 p in
     let s = start k in
     let a = s .args in
-    let step = a .step in
+    let acceptance = a .acceptance in
     let l = now (a .l) in
     let m = now (a .m) in
     let row = r .store-row .ensures
-    ∙ ap (λ u. splice l (rowStart (step .place)) (rowAfter (step .action) (step .status) u (step .next) (k .collect-terms .last .0) (rowAt l (step .place)))) (r .before .before .element .ensures .0)
-    ∙ ap (λ t. splice l (rowStart (step .place)) (rowAfter (step .action) (step .status) (swapOf m) (step .next) t (rowAt l (step .place)))) (terms k) in
-    let line = p .publish .ensures ∙ ap (λ t. choose (writesLine (step .action)) (splice (now (a .tape)) 0 (line (step .action) (step .next) (step .previous) m t)) (now (a .tape))) (terms k)
-    ∙ ap (λ x. choose (writesLine (step .action)) (splice (now (a .tape)) 0 x) (now (a .tape))) (line-is _ _ _ step (s .pre)) in
-    (h .update-header .ensures ∙ ap (headerAfter (step .action) (step .rows) (step .next)) row ∙ ledger-is _ _ _ step (s .pre), line)
+    ∙ ap (λ u. splice l (rowStart (acceptance .place)) (rowAfter (acceptance .action) (acceptance .status) u (acceptance .next) (k .collect-terms .last .0) (rowAt l (acceptance .place)))) (r .before .before .element .ensures .0)
+    ∙ ap (λ t. splice l (rowStart (acceptance .place)) (rowAfter (acceptance .action) (acceptance .status) (swapOf m) (acceptance .next) t (rowAt l (acceptance .place)))) (terms k) in
+    let line = p .publish .ensures ∙ ap (λ t. choose (writesLine (acceptance .action)) (splice (now (a .tape)) 0 (line (acceptance .action) (acceptance .next) (acceptance .previous) m t)) (now (a .tape))) (terms k)
+    ∙ ap (λ x. choose (writesLine (acceptance .action)) (splice (now (a .tape)) 0 x) (now (a .tape))) (line-is _ _ _ acceptance (s .pre)) in
+    (h .update-header .ensures ∙ ap (headerAfter (acceptance .action) (acceptance .rows) (acceptance .next)) row ∙ ledger-is _ _ _ acceptance (s .pre), line)
 
 pub apply-spec : {M : Type 1} → statement M
 apply-spec =

@@ -7,7 +7,7 @@ use Rattle.ledger.specs.Header.{capFor}
 use Rattle.ledger.proofs.RowLaws.{length-row}
 use Rattle.submission.specs.Submission.{maskedTerms}
 use Rattle.submission.proofs.Lookup.{length-stored}
-use Rattle.repository.proofs.StepLaws.{cap-fits}
+use Rattle.repository.proofs.AcceptanceLaws.{cap-fits}
 use borrow.Author.Needs.{needs}
 use Rattle.repository.proofs.apply.collect_terms.Statement.{statement}
 use Rattle.repository.proofs.apply.collect_terms.Tie as tie

@@ -26,7 +26,7 @@ use Rattle.repository.specs.declared.swap.SwapCheck.the-variants as foun
 use Rattle.repository.specs.declared.decide.Decision.the-variants.{Value}
 use Rattle.repository.specs.Decision.{swapIn, checkedSwap}
 use Rattle.repository.proofs.SwapLaws.{swap-told, known-fits, place-fits}
-use Rattle.repository.proofs.StepLaws.{step-is}
+use Rattle.repository.proofs.AcceptanceLaws.{acceptance-is}
 use Rattle.repository.proofs.DecisionLaws.{row-stop, status-stop, time-stop, full-stop, spent-stop, goes-on}
 use borrow.Author.Needs.{needs}
 use Rattle.repository.proofs.decide.decide_swap.Statement.{statement}
@@ -134,7 +134,7 @@ returns-6 c =
     let f = g .before .before in
     let e = f .before .before .before .before in
     let k = e .before .before in
-    ap Value (step-is _ _ _ (swap k) (s1 k .args .header) _ (known k .1) (s1 k .pre .0) (status (e .before)))
+    ap Value (acceptance-is _ _ _ (swap k) (s1 k .args .header) _ (known k .1) (s1 k .pre .0) (status (e .before)))
     ∙ sym (goes-on _ _ _ (known k .0) (admitted e) (same-time (f .before .before)) (sym (full (f .before)) ∙ f .if3 .left) (sym (spent (g .before)) ∙ g .if4 .left))
 
 pub decide-swap-spec : {M : Type 1} → statement M

@@ -4,7 +4,7 @@ use denote.Ref.{now}
 use Rattle.submission.specs.Opening.{Limits}
 use Rattle.repository.specs.Answers.{limitsOf}
 use Rattle.repository.specs.Decision.{decisionAnswer}
-use Rattle.repository.proofs.StepLaws.{decision-answers, decision-writes, fitting}
+use Rattle.repository.proofs.AcceptanceLaws.{decision-answers, decision-writes, fitting}
 use borrow.Author.Needs.{needs}
 use Rattle.repository.proofs.operations.submit.Statement.{statement}
 use Rattle.repository.proofs.operations.submit.Tie as tie

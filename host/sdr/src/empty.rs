@@ -1,35 +1,23 @@
 //! Empty buffers, as empty slices through the wrapper and as NULL with length
 //! 0 through the C interface itself.
 
+use super::{sdr_open, sdr_status, sdr_submit, Answer};
 use std::ptr::{null, null_mut};
 
 /// Caps of 250,000,000 for all five classes.
 const CAPS: [u64; 5] = [250_000_000; 5];
 
-extern "C" {
-    fn sdr_open(ledger: *mut u8, len: usize, a: u64, b: u64, c: u64, d: u64, e: u64) -> u32;
-    fn sdr_submit(
-        ledger: *mut u8,
-        ledger_len: usize,
-        tape: *mut u8,
-        tape_len: usize,
-        message: *const u8,
-        message_len: usize,
-    ) -> u64;
-    fn sdr_status(ledger: *const u8, ledger_len: usize, uti: *const u8, uti_len: usize) -> u64;
-}
-
 fn opened() -> Vec<u8> {
     let mut ledger = vec![0; 64 + 3 * 160];
-    assert_eq!(sdr::open(&mut ledger, &CAPS).verdict, sdr::ACCEPTED);
+    assert_eq!(super::open(&mut ledger, &CAPS).verdict, super::ACCEPTED);
     ledger
 }
 
 /// The answer that holds this verdict and nothing else.
-fn only(verdict: u8) -> sdr::Answer {
-    sdr::Answer {
+fn only(verdict: u8) -> Answer {
+    Answer {
         verdict,
-        ..sdr::Answer::default()
+        ..Answer::default()
     }
 }
 
@@ -38,28 +26,31 @@ fn empty_slices_are_short_buffers() {
     let mut ledger = opened();
     let before = ledger.clone();
     let mut tape = [7; 146];
-    assert_eq!(sdr::open(&mut [], &CAPS), only(sdr::LEDGER_SHORT));
-    assert_eq!(sdr::open(&mut [], &[0; 5]), only(sdr::LEDGER_SHORT));
-    assert_eq!(sdr::submit(&mut [], &mut [], &[]), only(sdr::LEDGER_WRONG));
+    assert_eq!(super::open(&mut [], &CAPS), only(super::LEDGER_SHORT));
+    assert_eq!(super::open(&mut [], &[0; 5]), only(super::LEDGER_SHORT));
     assert_eq!(
-        sdr::submit(&mut ledger, &mut [], &[]),
-        only(sdr::TAPE_SHORT)
+        super::submit(&mut [], &mut [], &[]),
+        only(super::LEDGER_WRONG)
     );
     assert_eq!(
-        sdr::submit(&mut ledger, &mut tape, &[]),
-        only(sdr::LAYOUT_WRONG)
+        super::submit(&mut ledger, &mut [], &[]),
+        only(super::TAPE_SHORT)
     );
-    assert_eq!(sdr::status(&[], &[]), only(sdr::LEDGER_WRONG));
-    assert_eq!(sdr::status(&ledger, &[]), element_1());
+    assert_eq!(
+        super::submit(&mut ledger, &mut tape, &[]),
+        only(super::LAYOUT_WRONG)
+    );
+    assert_eq!(super::status(&[], &[]), only(super::LEDGER_WRONG));
+    assert_eq!(super::status(&ledger, &[]), element_1());
     assert_eq!(ledger, before);
     assert_eq!(tape, [7; 146]);
 }
 
-fn element_1() -> sdr::Answer {
-    sdr::Answer {
-        verdict: sdr::FORM_BROKEN,
+fn element_1() -> Answer {
+    Answer {
+        verdict: super::FORM_BROKEN,
         element: 1,
-        ..sdr::Answer::default()
+        ..Answer::default()
     }
 }
 

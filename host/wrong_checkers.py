@@ -1,0 +1,110 @@
+"""wrong_checkers.py [NAME..]: whether the tests of `compare` can fail.
+
+Each entry of WRONG is a checker with one thing changed. Its tests are run twice: with the wrong checker beside the core, and
+with the wrong checker in the place of both, where only what a test states by itself can notice. Each run has to fail. Works
+on a copy of the project; needs the core's archive. Not a part of the gate: it takes some minutes.
+"""
+
+import os
+import pathlib
+import re
+import shutil
+import subprocess
+import sys
+import tempfile
+
+HOST = pathlib.Path(__file__).resolve().parent
+
+# name, file of checker/src, text, wrong text
+WRONG = [
+    ("a tie goes down", "amounts.rs", "(exact + step * PARTS / 2)", "(exact + step * PARTS / 2 - 1)"),
+    ("an amount may show 0", "amounts.rs", ".max(LEAST_SHOWN)", ".max(0)"),
+    ("plus at the cap", "amounts.rs", "if exact > u128::from(cap)", "if exact >= u128::from(cap)"),
+    ("plus by the rounded amount", "amounts.rs", "if exact > u128::from(cap) * PARTS", "if rounded(exact) > u128::from(cap)"),
+    ("a cap need not be rounded", "amounts.rs", "&& rounded(u128::from(cap) * PARTS) == u128::from(cap)", ""),
+    ("the highest element at fault", "rules.rs", "(1..=HIGHEST_CODE).find", "(1..=HIGHEST_CODE).rev().find"),
+    ("8 before 7", "judge.rs", "    rule_7_needed(&values, action)?;\n    rule_8_above_5(&values, action)?;", "    rule_8_above_5(&values, action)?;\n    rule_7_needed(&values, action)?;"),
+    ("10 before 9", "judge.rs", "    rule_9_forms(&values)?;\n    rule_10_pair(&values)?;", "    rule_10_pair(&values)?;\n    rule_9_forms(&values)?;"),
+    ("15 before 9", "judge.rs", "    rule_9_forms(&values)?;\n", "    rule_15_status(find(ledger, &header, values.present(UTI)).map(|(_, row)| row), action)?;\n    rule_9_forms(&values)?;\n"),
+    ("18 before 17", "judge.rs", "    rule_17_capacity(&header, action)?;\n    rule_18_identifiers(&header, action)?;", "    rule_18_identifiers(&header, action)?;\n    rule_17_capacity(&header, action)?;"),
+    ("13 lets settlement before expiration pass", "rules.rs", "            || before(SETTLEMENT, EXPIRATION)\n", ""),
+    ("14 lets the next identifier pass", "rules.rs", "!(1..header.next_identifier)", "!(1..=header.next_identifier)"),
+    ("NEWT brings an errored swap back", "rules.rs", "(Action::Newt, UNKNOWN) =>", "(Action::Newt, UNKNOWN | ERRORED) =>"),
+    ("REVI may change the execution time", "rules.rs", "matches!(action, Action::Modi | Action::Revi)", "matches!(action, Action::Modi)"),
+    ("17 one row early", "rules.rs", "header.rows == header.capacity, 17", "header.rows + 1 >= header.capacity, 17"),
+    ("18 for PRTO", "rules.rs", "action.writes_line() && header", "header"),
+    ("padding is compared", "ledger.rs", "&self.bytes[2..2 + uti.len()] == uti", "self.bytes[2..54].starts_with(uti) && self.bytes[2 + uti.len()..54].iter().all(|&b| b == b' ')"),
+    ("the last of two rows", "ledger.rs", ".find(|(_, row)| row.is_of(uti))", ".filter(|(_, row)| row.is_of(uti)).last()"),
+    ("the capacity is not looked at", "ledger.rs", "        && header.capacity == capacity(ledger.len())\n", ""),
+    ("NEWT leaves the last five bytes", "ledger.rs", "    row[155..160].fill(0);\n", ""),
+    ("TERM keeps the old identifier", "ledger.rs", "    row[0] = status;\n    put(row, 54, &identifier.to_le_bytes());\n}", "    row[0] = status;\n    let _ = identifier;\n}"),
+    ("a byte behind the line", "line.rs", "let line = &mut tape[..LINE];", "if let Some(next) = tape.get_mut(LINE) {\n        *next = b' ';\n    }\n    let line = &mut tape[..LINE];"),
+    ("a price that is left out is shown", "line.rs", "    if is_package(values) {\n        let (field, _)", "    if values.get(PRICE).is_some() {\n        let (field, _)"),
+    ("the minus of zero is kept", "price.rs", "v.starts_with(b\"-\") && !is_zero", "v.starts_with(b\"-\")"),
+    ("29 February 1900", "forms.rs", "(_, 0, _) => false,", "(_, 0, _) => year == 1900,"),
+    ("any LEI remainder", "forms.rs", "    left == 1\n", "    left < 97\n"),
+    ("an offset at the end", "message.rs", "next_start >= message.len()", "next_start > message.len()"),
+    ("NEWT with ETRM", "matrix.rs", "(b\"NEWT\", Some(b\"UPDT\"))", "(b\"NEWT\", Some(b\"ETRM\"))"),
+]
+
+# the core's calls, and the checker's in their place
+CORE = [
+    ("        sdr::open(ledger, caps)\n", "        Answer { verdict: checker::open(ledger, caps), ..Answer::default() }\n"),
+    ("        sdr::submit(ledger, tape, message)\n", "        translated(checker::submit(ledger, tape, message))\n"),
+    ("        sdr::status(ledger, uti)\n", "        translated(checker::status(ledger, uti))\n"),
+]
+
+
+def changed(path, old, new):
+    text = path.read_text(encoding="utf-8")
+    if text.count(old) != 1:
+        sys.exit("%s has %d times: %s" % (path.name, text.count(old), old))
+    path.write_text(text.replace(old, new), encoding="utf-8")
+
+
+def copied(top):
+    """A copy of the project's sources, with the archive where they look for it."""
+    (top / "target").mkdir()
+    (top / "target" / "staticlib").symlink_to(HOST.parent / "target" / "staticlib")
+    for name in ("include", "crates/vectors"):
+        shutil.copytree(HOST.parent / name, top / name)
+    return shutil.copytree(HOST, top / "host", ignore=shutil.ignore_patterns("target"))
+
+
+def failing(host):
+    """The tests that fail, up to the first file of tests that has one; None where the tests do not even compile."""
+    command = ["cargo", "test", "--release", "--offline", "--locked", "-p", "compare", "--tests"]
+    environment = dict(os.environ, CARGO_PROFILE_RELEASE_OPT_LEVEL="1", CARGO_PROFILE_RELEASE_INCREMENTAL="true")
+    ended = subprocess.run(command, cwd=host, env=environment, capture_output=True, text=True)
+    if "could not compile" in ended.stderr:
+        sys.exit(ended.stderr[-2000:])
+    return sorted(set(re.findall(r"^test (\S+) \.\.\. FAILED$", ended.stdout, re.M)))
+
+
+def main(names):
+    unnoticed = 0
+    with tempfile.TemporaryDirectory() as folder:
+        host = copied(pathlib.Path(folder))
+        judge = host / "compare/src/judge.rs"
+        apart = judge.read_text(encoding="utf-8")
+        for name, file, old, new in WRONG:
+            if names and name not in names:
+                continue
+            source = host / "checker/src" / file
+            right = source.read_text(encoding="utf-8")
+            changed(source, old, new)
+            for way in ("beside the core", "in the place of both"):
+                if way != "beside the core":
+                    for call in CORE:
+                        changed(judge, *call)
+                found = failing(host)
+                unnoticed += not found
+                print("%s, %s: %s" % (name, way, ", ".join(found[:3]) or "NOT NOTICED"), flush=True)
+            source.write_text(right, encoding="utf-8")
+            judge.write_text(apart, encoding="utf-8")
+    print("%d runs not noticed" % unnoticed)
+    sys.exit(1 if unnoticed else 0)
+
+
+if __name__ == "__main__":
+    main(sys.argv[1:])
