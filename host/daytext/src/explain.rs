@@ -111,7 +111,7 @@ impl Reading<'_> {
         let due = self.judged + 1;
         let Some(message) = self.messages.whole.get(self.judged) else {
             return Err(format!(
-                "the report has a line too many: the day has {} whole messages",
+                "this line is one too many: whole messages in the day: {}",
                 self.judged
             ));
         };
@@ -137,7 +137,7 @@ impl Reading<'_> {
         let whole = self.messages.whole.len();
         if self.judged < whole {
             return Err(format!(
-                "the report ends behind message {}, but the day has {whole} whole messages",
+                "the report ends too early: messages so far: {}, whole messages in the day: {whole}",
                 self.judged
             ));
         }
@@ -156,13 +156,13 @@ impl Reading<'_> {
     fn adds_up(&self, judged: u64, published: u64) -> Result<(), String> {
         if usize::try_from(judged) != Ok(self.judged) {
             return Err(format!(
-                "the line says {judged} messages judged, but the report has {} lines for them",
+                "messages judged in this line: {judged}, in the lines before: {}",
                 self.judged
             ));
         }
         if published != self.published {
             return Err(format!(
-                "the line says {published} tape lines published, but the report has {} identifiers",
+                "tape lines published in this line: {published}, in the lines before: {}",
                 self.published
             ));
         }
