@@ -6,6 +6,7 @@ mod decode;
 mod due;
 mod encode;
 mod explain;
+mod form;
 mod mismatches;
 mod names;
 mod program;
