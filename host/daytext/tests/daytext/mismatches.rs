@@ -107,43 +107,45 @@ fn lines_behind_the_last() {
     );
 }
 
+/// Lines in the place of the second message, and what is wrong with them.
+const BROKEN: [(&str, &str); 14] = [
+    ("", "`` is neither four numbers nor `end` or `cut` with two"),
+    (
+        "2 5 0",
+        "`2 5 0` is neither four numbers nor `end` or `cut` with two",
+    ),
+    (
+        "end 2",
+        "`end 2` is neither four numbers nor `end` or `cut` with two",
+    ),
+    (
+        "stop 2 1",
+        "`stop 2 1` is neither four numbers nor `end` or `cut` with two",
+    ),
+    (
+        "2 5 0 0 0",
+        "`2 5 0 0 0` is neither four numbers nor `end` or `cut` with two",
+    ),
+    ("2 5 x 0", "`x` is not a number"),
+    ("2 5  0", "`` is not a number"),
+    ("2 5 0 -1", "`-1` is not a number"),
+    ("+2 5 0 0", "`+2` is not a number"),
+    (
+        "2 5 0 99999999999999999999",
+        "`99999999999999999999` is not a number",
+    ),
+    ("end 2 x", "`x` is not a number"),
+    ("2 19 0 0", "the verdict is not one of 0 to 18"),
+    ("2 9 26 0", "the element is not one of 0 to 25"),
+    (
+        "2 0 0 1000000000000",
+        "the identifier has more than 12 digits",
+    ),
+];
+
 #[test]
 fn broken_lines() {
-    let broken = [
-        ("", "`` is neither four numbers nor `end` or `cut` with two"),
-        (
-            "2 5 0",
-            "`2 5 0` is neither four numbers nor `end` or `cut` with two",
-        ),
-        (
-            "end 2",
-            "`end 2` is neither four numbers nor `end` or `cut` with two",
-        ),
-        (
-            "stop 2 1",
-            "`stop 2 1` is neither four numbers nor `end` or `cut` with two",
-        ),
-        (
-            "2 5 0 0 0",
-            "`2 5 0 0 0` is neither four numbers nor `end` or `cut` with two",
-        ),
-        ("2 5 x 0", "`x` is not a number"),
-        ("2 5  0", "`` is not a number"),
-        ("2 5 0 -1", "`-1` is not a number"),
-        ("+2 5 0 0", "`+2` is not a number"),
-        (
-            "2 5 0 99999999999999999999",
-            "`99999999999999999999` is not a number",
-        ),
-        ("end 2 x", "`x` is not a number"),
-        ("2 19 0 0", "the verdict is not one of 0 to 18"),
-        ("2 9 26 0", "the element is not one of 0 to 25"),
-        (
-            "2 0 0 1000000000000",
-            "the identifier has more than 12 digits",
-        ),
-    ];
-    for (line, sentence) in broken {
+    for (line, sentence) in BROKEN {
         stops(
             &two(),
             &format!("1 0 0 1\n{line}\nend 2 1\n"),
@@ -198,7 +200,7 @@ fn wrong_last_words() {
         b"",
         "cut 0 0\n",
         2,
-        "the report says `cut`, but the day ends with a whole message",
+        "the report says `cut`, but the day stops inside no length and no message",
         "",
     );
     stops(

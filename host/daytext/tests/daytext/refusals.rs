@@ -32,7 +32,7 @@ fn words() {
 }
 
 #[test]
-fn codes_and_offsets() {
+fn codes() {
     is_refused(
         "65536 A\n",
         1,
@@ -48,6 +48,10 @@ fn codes_and_offsets() {
         1,
         "the code `1\\x09A` is not a number from 0 to 65535",
     );
+}
+
+#[test]
+fn offsets() {
     is_refused(
         "1@65536 A\n",
         1,
