@@ -27,13 +27,11 @@ impl<'a> Line<'a> {
 
 /// All lines, counted from 1. The last one may lack its newline.
 pub fn lines(text: &[u8]) -> impl Iterator<Item = Line<'_>> {
-    let whole = text.strip_suffix(b"\n").unwrap_or(text);
-    let pieces = whole.split(|&byte| byte == b'\n');
-    let counted = pieces.enumerate().map(|(before, text)| Line {
+    let pieces = text.split_inclusive(|&byte| byte == b'\n');
+    pieces.enumerate().map(|(before, piece)| Line {
         number: before + 1,
-        text,
-    });
-    counted.take(if text.is_empty() { 0 } else { usize::MAX })
+        text: piece.strip_suffix(b"\n").unwrap_or(piece),
+    })
 }
 
 /// The lines between blank lines, without comments; no block is empty.

@@ -156,6 +156,15 @@ fn values_cannot_disturb_the_screen() {
 }
 
 #[test]
+fn long_values_are_cut_short() {
+    let sixty = "B".repeat(60);
+    let whole = message(&[(1, sixty.as_bytes())]);
+    first_line(&whole, &format!("swap {sixty}, no action"));
+    let longer = message(&[(1, &[b'B'; 61])]);
+    first_line(&longer, &format!("swap {sixty}..., no action"));
+}
+
+#[test]
 fn a_cut_day() {
     let mut bytes = day(&[message(&[(1, UTI), (2, b"REVI")])]);
     let explained = "message 1: swap LEDGERTESTSWAP0000001, action REVI (brought back)\n  \

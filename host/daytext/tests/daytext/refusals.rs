@@ -1,7 +1,7 @@
 //! Texts that break the form: the line, and the sentence.
 
-use crate::common::{encoded, refused};
-use daytext::Fault;
+use crate::common::{encoded, refused, Random};
+use daytext::{Fault, Stop};
 
 #[track_caller]
 fn is_refused(text: &str, line: usize, sentence: &str) {
@@ -327,4 +327,35 @@ fn too_many_elements() {
         3,
         "the message has 65536 elements, more than its count can say",
     );
+}
+
+/// Pieces of which random texts are made.
+const PIECES: [&[u8]; 24] = [
+    b"count ", b"length ", b"bytes ", b"fill ", b"raw ", b"due ", b"cut", b"repeat ", b"again",
+    b"{n}", b"{n-1:3}", b"\\x4", b"{", b"\\", b"@", b"#", b" ", b"1", b"7 ", b"41", b"\n", b"\n\n",
+    b"\n\n", b"\xff",
+];
+
+/// Any text is encoded, or refused with one of its lines.
+#[test]
+fn any_text() {
+    let mut random = Random::new(8);
+    let (mut taken, mut refused) = (0, 0);
+    for _ in 0..50_000 {
+        let pieces = 1 + random.below(9);
+        let text: Vec<u8> = (0..pieces)
+            .flat_map(|_| PIECES[random.below(PIECES.len())])
+            .copied()
+            .collect();
+        let lines = text.split(|&byte| byte == b'\n').count();
+        match daytext::encode(&text, &mut std::io::sink()) {
+            Ok(()) => taken += 1,
+            Err(Stop::Fault(fault)) => {
+                assert!((1..=lines).contains(&fault.line));
+                refused += 1;
+            }
+            Err(Stop::Output(error)) => panic!("{error}"),
+        }
+    }
+    assert!(taken > 1000 && refused > 1000, "{taken} {refused}");
 }

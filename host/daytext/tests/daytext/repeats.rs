@@ -15,6 +15,7 @@ fn blocks_between_are_written_so_many_times() {
     );
     gives("repeat 1\n\nraw 01\n\nagain\n", b"\x01");
     gives("repeat 0\n\nraw 01\n\nagain\n\nraw 02\n", b"\x02");
+    gives("repeat 0\n\n1 {n-2}\n\nagain\n", b"");
     gives("repeat 3\n\nagain\n", b"");
 }
 
