@@ -53,7 +53,7 @@ fn a_wrong_offset() {
         b"\x0c\0\x02\0\x01\0\xf4\x01\x02\0\x0b\0AB",
         "# message 1\n1@500 A\n2 B\n",
     );
-    // The second value's start is not known, so the third line has it.
+    // Where the second value starts is not known; its line has both values.
     gives(
         b"\x11\0\x03\0\x01\0\x0e\0\x02\0\x03\0\x03\0\x10\0ABC",
         "# message 1\n1\n2@3 AB\n3 C\n",
