@@ -6,6 +6,10 @@ mod operations;
 mod swap;
 mod verdicts;
 
+pub use answer::Answer;
+pub use answer::refusal;
+pub use operations::open;
+pub use operations::submit;
 ghost use mathlib.Core.Path.{_≡_};
 ghost use Rattle.submission.specs.Opening.{documentLimits, opened};
 ghost use Rattle.submission.specs.Submission.{submitted};
@@ -14,14 +18,12 @@ ghost use Rattle.repository.specs.Answers.{capsOf, submissionAnswer, que
 ghost use Rattle.repository.specs.Demands.{Opening-demands, Submission-demands, Question-demands};
 use answer::pack;
 use ledger::Caps;
-use operations::open;
 use operations::status;
-use operations::submit;
 
 // Document 01's limits: the longest message in bytes, and the largest capacity in rows.
-const LONGEST_MESSAGE: usize = 2_048;
+pub const LONGEST_MESSAGE: usize = 2_048;
 
-const LARGEST_CAPACITY: u32 = 100_000;
+pub const LARGEST_CAPACITY: u32 = 100_000;
 
 // Opens a ledger with the caps of the five asset classes; answers the verdict.
 #[no_mangle]

@@ -3,6 +3,7 @@ mod checks;
 mod verdicts;
 
 pub use verdicts::FORM_BROKEN;
+pub use verdicts::LAYOUT_WRONG;
 ghost use mathlib.Core.Path.{_≡_};
 ghost use Rattle.rules.specs.Rules.{judged, refusedBy};
 use actions::ACTION_CODE;
@@ -15,7 +16,6 @@ use checks::lowest_fault;
 use elements::EVENT_TYPE;
 use message::element;
 use verdicts::DUE_MISSING;
-use verdicts::LAYOUT_WRONG;
 use verdicts::NEEDED_MISSING;
 use verdicts::NO_ACTION;
 use verdicts::NOT_PAIR;

@@ -1,0 +1,17 @@
+-- `dayrun::judging::lines` meets its contract. Assumes nothing.
+use native.Mathlib.Omega.{arith}
+use borrow.Author.Tests.{eq-eqb, ne-eqb}
+use Rattle.dayrun.specs.Day.{linesOf}
+use Rattle.dayrun.proofs.judging.lines.Statement.{statement}
+use Rattle.dayrun.proofs.judging.lines.Tie as tie
+
+returns : tie.Need-returns
+unfolding linesOf
+returns c = (rw (eq-eqb _ _ (c .if1 .taken)), omega arith)
+
+returns-2 : tie.Need-returns-2
+unfolding linesOf
+returns-2 c = (rw (ne-eqb _ _ (c .if1 .left)), omega arith)
+
+pub lines-spec : {M : Type 1} → statement M
+lines-spec = tie.close (tie.spec returns returns-2)

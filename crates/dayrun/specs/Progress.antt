@@ -1,0 +1,55 @@
+-- How the code counts a day's progress.
+use Prim.Native.Nat.{ℕ, _+_, _-_, _<_, _≤_}
+use mathlib.Core.Bool.{true}
+use mathlib.Core.Path.{_≡_}
+use mathlib.Core.List.{List}
+use lib.ListN.{length}
+use Rattle.dayrun.specs.declared.judging.Progress.{Progress}
+use Rattle.day.specs.Frame.{longestFrame}
+use Rattle.day.specs.Report.{longestLine}
+use Rattle.dayrun.specs.Day.{Day, Step, mostMessages, linesOf}
+
+-- after a message that takes so many bytes of the input and has such a line and identifier
+abbrev pub counted : Progress → ℕ → List ℕ → ℕ → Progress
+counted p taken line identifier =
+    record { at = p .at + taken; used = p .used + length line; judged = p .judged + 1; published = p .published + linesOf identifier; «is_open» = p .«is_open» }
+
+-- the day that it counts, with ledger and tape buffer
+abbrev pub dayOf : List ℕ → List ℕ → Progress → Day
+dayOf l t p = record { ledger = l; tape = t; judged = p .judged; published = p .published }
+
+abbrev pub progressAfter : Progress → Step → Progress
+progressAfter p s =
+    record { at = p .at + s .taken; used = p .used + length (s .line); judged = s .after .judged; published = s .after .published; «is_open» = p .«is_open» }
+
+-- what is left of the input stands at the front
+abbrev pub atFront : Progress → Progress
+atFront p = record { at = 0; used = p .used; judged = p .judged; published = p .published; «is_open» = p .«is_open» }
+
+-- ---- bounds
+
+-- as many bytes are written at a time
+abbrev pub writeSize : ℕ
+writeSize = 32_768
+
+-- as many bytes are read at a time
+abbrev pub blockSize : ℕ
+blockSize = 65_536
+
+-- the progress is within n bytes of input, and fewer than `most` bytes wait to be written
+pub record Within (n most : ℕ) (p : Progress) : Type 0 where
+  pub passed : p .at ≤ n
+  pub waiting : p .used < most
+  pub lines : p .published ≤ p .judged
+  pub messages : p .judged ≤ mostMessages
+
+-- from p to r within n bytes of input: one message further, or no message is whole
+pub record Steps (n : ℕ) (p r : Progress) : Type 0 where
+  pub within : Within n (p .used + longestLine + 1) r
+  pub forward : p .at ≤ r .at
+  pub counts : p .at < r .at → p .judged < r .judged
+  pub stays : r .at ≡ p .at → (n - p .at < longestFrame) × (r .used ≡ p .used)
+
+-- the input of n bytes goes on: the next message is not whole, and shorter than the longest
+abbrev pub Leaves : ℕ → Progress → Type 0
+Leaves n p = p .«is_open» ≡ true → p .judged < mostMessages → n - p .at < longestFrame

@@ -1,0 +1,36 @@
+// Judges a day of messages from standard input and writes its report to standard output: document 01, 'The day run'.
+mod input;
+mod judging;
+mod output;
+mod run;
+
+use input::INPUT_SIZE;
+use ledger::Caps;
+use ledger::HEADER_SIZE;
+use ledger::LINE_SIZE;
+use ledger::ROW_SIZE;
+use output::OUTPUT_SIZE;
+use repository::LARGEST_CAPACITY;
+
+// The rows of the day's ledger, and the cap of every asset class.
+const ROWS: usize = 400;
+
+const CAP: u64 = 250_000_000;
+
+const LEDGER_SIZE: usize = HEADER_SIZE + ROWS * ROW_SIZE;
+
+fn main() {
+    let mut ledger = [0u8; LEDGER_SIZE];
+    let caps = Caps {
+        cr: CAP,
+        ir: CAP,
+        fx: CAP,
+        eq: CAP,
+        co: CAP,
+    };
+    repository::open(&mut ledger, caps, LARGEST_CAPACITY);
+    let mut tape = [0u8; LINE_SIZE];
+    let mut input = [0u8; INPUT_SIZE];
+    let mut out = [0u8; OUTPUT_SIZE];
+    run::run(&mut ledger, &mut tape, &mut input, &mut out);
+}

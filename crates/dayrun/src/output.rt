@@ -1,0 +1,40 @@
+// The report waits in a buffer. It is written out where there is enough of it, and before a read that may wait.
+ghost use Prim.Native.Nat.{ℕ};
+ghost use mathlib.Core.Path.{_≡_};
+ghost use Rattle.dayrun.specs.Progress.{writeSize, Within};
+use crate::judging::Progress;
+use day::LONGEST_LINE;
+use libc::STDOUT_FILENO;
+use octets::part_of;
+
+// As many bytes are written at a time.
+pub const WRITE_SIZE: usize = 32_768;
+
+pub const OUTPUT_SIZE: usize = WRITE_SIZE + LONGEST_LINE;
+
+// Writes out what waits.
+pub fn write_out(out: &[u8], p: Progress) -> Progress
+    ensures { λ r. ⌜ ((n most : ℕ) → Within n most p → Within n writeSize r) ⌝ }
+    ensures { λ r. ⌜ (r .at ≡ p .at) × (r .judged ≡ p .judged) ⌝ }
+{
+    let waiting = part_of(out, 0, p.used);
+    let is_written = io::write_all(STDOUT_FILENO, waiting);
+    Progress {
+        at: p.at,
+        used: 0,
+        judged: p.judged,
+        published: p.published,
+        is_open: is_written,
+    }
+}
+
+// Writes out what waits where there is enough of it.
+pub fn write_enough(out: &[u8], p: Progress) -> Progress
+    ensures { λ r. ⌜ ((n most : ℕ) → Within n most p → Within n writeSize r) ⌝ }
+    ensures { λ r. ⌜ (r .at ≡ p .at) × (r .judged ≡ p .judged) ⌝ }
+{
+    if WRITE_SIZE <= p.used {
+        return write_out(out, p);
+    }
+    p
+}
