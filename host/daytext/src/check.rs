@@ -3,7 +3,7 @@
 use crate::bytes::block_bytes;
 use crate::day::{Block, Day};
 use crate::fault::Fault;
-use crate::report::due_numbers;
+use crate::report::due_answer;
 
 /// Tries each block with the first and the last number of its counter.
 /// Numbers and lengths never fall as the counter rises, so what is right at
@@ -23,7 +23,7 @@ pub fn check(day: &Day) -> Result<(), Fault> {
 fn check_block(block: &Block, n: u64) -> Result<(), Fault> {
     block_bytes(block, n)?;
     if let Some(due) = &block.due {
-        due_numbers(due, n)?;
+        due_answer(due, n)?;
     }
     Ok(())
 }

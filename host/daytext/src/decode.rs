@@ -109,7 +109,8 @@ impl ElementLine<'_> {
 }
 
 /// The message as elements. It has as many as its count says or as its first
-/// offset makes room for, whichever leaves fewer lines that are odd.
+/// offset makes room for: whichever leaves fewer odd lines, then whichever
+/// leaves fewer bytes to escape.
 fn element_lines(message: &[u8], count: u16) -> Option<Vec<ElementLine<'_>>> {
     let count = usize::from(count);
     let told = cut_up(message, count);
@@ -120,8 +121,14 @@ fn element_lines(message: &[u8], count: u16) -> Option<Vec<ElementLine<'_>>> {
         let wrong_count = usize::from(lines.len() != count);
         wrong_count + lines.iter().filter(|line| line.odd).count()
     };
-    let best = told.into_iter().chain(room).min_by_key(odd)?;
+    let choice = |lines: &Vec<ElementLine>| (odd(lines), unprintable(lines));
+    let best = told.into_iter().chain(room).min_by_key(choice)?;
     (best.len() <= MOST_ODD || odd(&best) == 0).then_some(best)
+}
+
+fn unprintable(lines: &[ElementLine]) -> usize {
+    let bytes = lines.iter().flat_map(|line| line.value);
+    bytes.filter(|byte| !(b' '..=b'~').contains(byte)).count()
 }
 
 /// How many entries fit in front of the first offset.

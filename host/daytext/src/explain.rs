@@ -2,10 +2,10 @@
 
 use crate::fault::{Fault, Stop};
 use crate::lines::{lines, Line};
-use crate::messages::{find, split, Found, Messages, Rest};
+use crate::messages::{split, Messages, Rest};
 use crate::names;
-use crate::report::{read_line, ReportLine, HEADING};
-use crate::values::shown;
+use crate::report::{read_line, Answer, ReportLine, HEADING};
+use crate::words::{write_answer, write_message};
 use std::io::{self, Write};
 
 /// Explains each line of a report. Where report and day do not belong
@@ -63,34 +63,17 @@ struct Reading<'a> {
     published: u64,
 }
 
-/// Verdict, element and identifier of a message.
-struct Answer {
-    verdict: u64,
-    element: u64,
-    identifier: u64,
-}
-
 impl Reading<'_> {
     /// Explains a line; true where it is the last one.
     fn line(&mut self, line: &Line, out: &mut impl Write) -> Result<bool, Stop> {
         let fault = |sentence| Fault::new(line.number, sentence);
         match read_line(line.text).map_err(fault)? {
-            ReportLine::Answer {
-                position,
-                verdict,
-                element,
-                identifier,
-            } => {
-                let answer = Answer {
-                    verdict,
-                    element,
-                    identifier,
-                };
+            ReportLine::Message { position, answer } => {
                 let message = self.message(position, &answer).map_err(fault)?;
                 write_message(position, message, out)?;
                 write_answer(&answer, out)?;
                 self.judged += 1;
-                self.published += u64::from(identifier != 0);
+                self.published += u64::from(answer.identifier != 0);
                 Ok(false)
             }
             ReportLine::Last {
@@ -111,7 +94,7 @@ impl Reading<'_> {
         let due = self.judged + 1;
         let Some(message) = self.messages.whole.get(self.judged) else {
             return Err(format!(
-                "the report has a line too many: the day has {} whole messages",
+                "this line is one too many: whole messages in the day: {}",
                 self.judged
             ));
         };
@@ -137,14 +120,15 @@ impl Reading<'_> {
         let whole = self.messages.whole.len();
         if self.judged < whole {
             return Err(format!(
-                "the report ends behind message {}, but the day has {whole} whole messages",
+                "the report ends too early: messages so far: {}, whole messages in the day: {whole}",
                 self.judged
             ));
         }
         match (cut, self.messages.rest) {
-            (true, Rest::Nothing) => {
-                Err("the report says `cut`, but the day ends with a whole message".to_string())
-            }
+            (true, Rest::Nothing) => Err(
+                "the report says `cut`, but the day stops inside no length and no message"
+                    .to_string(),
+            ),
             (false, Rest::Length(_) | Rest::Message { .. }) => Err(format!(
                 "the report says `end`, but the day stops inside {}",
                 self.stopped()
@@ -156,13 +140,13 @@ impl Reading<'_> {
     fn adds_up(&self, judged: u64, published: u64) -> Result<(), String> {
         if usize::try_from(judged) != Ok(self.judged) {
             return Err(format!(
-                "the line says {judged} messages judged, but the report has {} lines for them",
+                "messages judged in this line: {judged}, in the lines before: {}",
                 self.judged
             ));
         }
         if published != self.published {
             return Err(format!(
-                "the line says {published} tape lines published, but the report has {} identifiers",
+                "tape lines published in this line: {published}, in the lines before: {}",
                 self.published
             ));
         }
@@ -194,66 +178,4 @@ impl Reading<'_> {
             "; messages judged: {judged}, tape lines published: {published}"
         )
     }
-}
-
-fn write_message(position: u64, message: &[u8], out: &mut impl Write) -> io::Result<()> {
-    let length = message.len();
-    if length > names::LONGEST_MESSAGE {
-        return writeln!(
-            out,
-            "message {position}: longer than 2,048 bytes ({length}) and passed over"
-        );
-    }
-    let mut words = vec![swap_words(message), action_words(message)];
-    words.extend(event_words(message));
-    writeln!(out, "message {position}: {}", words.join(", "))
-}
-
-fn swap_words(message: &[u8]) -> String {
-    match find(message, names::UTI) {
-        Found::Value(value) => format!("swap {}", shown(value)),
-        Found::Absent => "no swap named".to_string(),
-        Found::Unreadable => "the swap cannot be read".to_string(),
-    }
-}
-
-fn action_words(message: &[u8]) -> String {
-    match find(message, names::ACTION_TYPE) {
-        Found::Value(value) => {
-            let meaning = names::action(value).unwrap_or("none of the seven actions");
-            format!("action {} ({meaning})", shown(value))
-        }
-        Found::Absent => "no action".to_string(),
-        Found::Unreadable => "the action cannot be read".to_string(),
-    }
-}
-
-fn event_words(message: &[u8]) -> Option<String> {
-    match find(message, names::EVENT_TYPE) {
-        Found::Value(value) => Some(format!("event {}", shown(value))),
-        _ => None,
-    }
-}
-
-fn write_answer(answer: &Answer, out: &mut impl Write) -> io::Result<()> {
-    let Answer {
-        verdict,
-        element,
-        identifier,
-    } = *answer;
-    let words = names::verdict(verdict).unwrap_or("no such verdict");
-    match (verdict, identifier) {
-        (0, 0) => return writeln!(out, "  {words} (verdict 0); no tape line is written"),
-        (0, _) => {
-            return writeln!(
-                out,
-                "  {words} (verdict 0); dissemination identifier of its tape line: {identifier:012}"
-            )
-        }
-        _ => write!(out, "  refused (verdict {verdict}): {words}")?,
-    }
-    if let Some(name) = names::element(element) {
-        write!(out, "; element {element}, {name}")?;
-    }
-    writeln!(out)
 }

@@ -22,6 +22,7 @@ mod numbers;
 mod report;
 mod text;
 mod values;
+mod words;
 
 pub use bytes::encode;
 pub use decode::decode;

@@ -55,20 +55,20 @@ pub fn find(message: &[u8], code: u16) -> Found<'_> {
         return Found::Unreadable;
     };
     for place in 0..usize::from(count) {
-        match u16_at(message, 2 + 4 * place) {
-            None => return Found::Unreadable,
-            Some(found) if found == code => {
-                let value = value_at(message, usize::from(count), place);
-                return value.map_or(Found::Unreadable, Found::Value);
-            }
-            Some(_) => {}
+        let entry = message.get(2 + 4 * place..6 + 4 * place);
+        let Some(found) = entry.and_then(|entry| u16_at(entry, 0)) else {
+            return Found::Unreadable;
+        };
+        if found == code {
+            let value = value_at(message, usize::from(count), place);
+            return value.map_or(Found::Unreadable, Found::Value);
         }
     }
     Found::Absent
 }
 
-/// The value of the entry at a place, if its offset and the next one lie in
-/// the message, behind the header.
+/// The value of the entry at a place: from its offset to the next one, if
+/// both lie in the message, behind the entry itself.
 fn value_at(message: &[u8], count: usize, place: usize) -> Option<&[u8]> {
     let offset = |place: usize| u16_at(message, 4 + 4 * place).map(usize::from);
     let start = offset(place)?;
@@ -77,8 +77,8 @@ fn value_at(message: &[u8], count: usize, place: usize) -> Option<&[u8]> {
     } else {
         message.len()
     };
-    if start < 2 + 4 * count {
-        return None;
-    }
-    message.get(start..end)
+    let behind_entry = start >= 6 + 4 * place;
+    message
+        .get(start..end)
+        .filter(|value| behind_entry && !value.is_empty())
 }

@@ -22,7 +22,7 @@ pub fn due(text: &[u8], out: &mut impl Write) -> Result<(), Stop> {
     for part in &day.parts {
         for n in 1..=part.times {
             for due in part.blocks.iter().flat_map(|block| &block.due) {
-                tally.line(due_numbers(due, n)?, out)?;
+                tally.line(due_answer(due, n)?, out)?;
             }
         }
     }
@@ -50,8 +50,13 @@ struct Tally {
 }
 
 impl Tally {
-    fn line(&mut self, numbers: Option<[u64; 3]>, out: &mut impl Write) -> io::Result<()> {
-        let Some([verdict, element, identifier]) = numbers else {
+    fn line(&mut self, answer: Option<Answer>, out: &mut impl Write) -> io::Result<()> {
+        let Some(Answer {
+            verdict,
+            element,
+            identifier,
+        }) = answer
+        else {
             self.cut = true;
             return Ok(());
         };
@@ -66,8 +71,35 @@ impl Tally {
     }
 }
 
-/// Verdict, element and identifier with n as the counter; none for `cut`.
-pub fn due_numbers(due: &Due, n: u64) -> Result<Option<[u64; 3]>, Fault> {
+/// What is said of a message behind its position.
+#[derive(Debug)]
+pub struct Answer {
+    pub verdict: u64,
+    pub element: u64,
+    pub identifier: u64,
+}
+
+impl Answer {
+    /// Takes verdict, element and identifier if there are such.
+    fn new([verdict, element, identifier]: [u64; 3]) -> Result<Answer, String> {
+        if names::verdict(verdict).is_none() {
+            Err("the verdict is not one of 0 to 18".to_string())
+        } else if element != 0 && names::element(element).is_none() {
+            Err("the element is not one of 0 to 25".to_string())
+        } else if identifier >= names::IDENTIFIER_LIMIT {
+            Err("the identifier has more than 12 digits".to_string())
+        } else {
+            Ok(Answer {
+                verdict,
+                element,
+                identifier,
+            })
+        }
+    }
+}
+
+/// The answer that is due with n as the counter; none for `cut`.
+pub fn due_answer(due: &Due, n: u64) -> Result<Option<Answer>, Fault> {
     let fault = |sentence| Fault::new(due.line, sentence);
     let Some(values) = &due.numbers else {
         return Ok(None);
@@ -79,31 +111,15 @@ pub fn due_numbers(due: &Due, n: u64) -> Result<Option<[u64; 3]>, Fault> {
         // More digits than 64 bits hold are out of bounds in any case.
         *number = decimal(&digits).unwrap_or(u64::MAX);
     }
-    in_bounds(numbers).map_err(fault)?;
-    Ok(Some(numbers))
-}
-
-/// Tells whether verdict, element and identifier are ones that there are.
-fn in_bounds([verdict, element, identifier]: [u64; 3]) -> Result<(), String> {
-    if names::verdict(verdict).is_none() {
-        Err("the verdict is not one of 0 to 18".to_string())
-    } else if element != 0 && names::element(element).is_none() {
-        Err("the element is not one of 0 to 25".to_string())
-    } else if identifier >= names::IDENTIFIER_LIMIT {
-        Err("the identifier has more than 12 digits".to_string())
-    } else {
-        Ok(())
-    }
+    Answer::new(numbers).map(Some).map_err(fault)
 }
 
 /// A line of a report behind its heading.
 #[derive(Debug)]
 pub enum ReportLine {
-    Answer {
+    Message {
         position: u64,
-        verdict: u64,
-        element: u64,
-        identifier: u64,
+        answer: Answer,
     },
     Last {
         cut: bool,
@@ -121,18 +137,10 @@ pub fn read_line(text: &[u8]) -> Result<ReportLine, String> {
             judged: field(judged)?,
             published: field(published)?,
         }),
-        [position, verdict, element, identifier] => {
-            let position = field(position)?;
-            let numbers = [field(verdict)?, field(element)?, field(identifier)?];
-            in_bounds(numbers)?;
-            let [verdict, element, identifier] = numbers;
-            Ok(ReportLine::Answer {
-                position,
-                verdict,
-                element,
-                identifier,
-            })
-        }
+        [position, verdict, element, identifier] => Ok(ReportLine::Message {
+            position: field(position)?,
+            answer: Answer::new([field(verdict)?, field(element)?, field(identifier)?])?,
+        }),
         _ => Err(format!(
             "`{}` is neither four numbers nor `end` or `cut` with two",
             shown(text)
