@@ -23,9 +23,9 @@ build_daytext() {
         fail 'daytext could not be built'
 }
 
-# stored NAME: sets bytes and report, the files in which the day NAME is kept. Those of verdicts are the input and the expected
-# output of the program, where its crate has them.
+# stored NAME: sets bytes and report, the files in which the day NAME is kept. Those of verdicts are the program's own input and
+# expected output.
 stored() {
     bytes=days/$1.day report=days/$1.report
-    if [ "$1" = verdicts ] && [ -e crates/dayrun/stdin ]; then bytes=crates/dayrun/stdin report=crates/dayrun/stdout; fi
+    if [ "$1" = verdicts ]; then bytes=crates/dayrun/stdin report=crates/dayrun/stdout; fi
 }

@@ -5,12 +5,14 @@ use mathlib.Core.Path.{_≡_, refl, sym, ap, _∙_}
 use mathlib.Core.List.{List, [], _∷_, _++_}
 use native.Mathlib.Numerals.{add-one}
 use native.Mathlib.Omega.{arith}
-use borrow.Author.Tests.{lt-ltb, le-ltb, le-leb, lt-leb}
-use lib.ListN.{length, take, drop, getD, set, length-drop}
-use lib.Seq.{take-suc, set-split, getD-drop}
+use borrow.Author.Tests.{lt-ltb, le-ltb, le-leb, lt-leb, leb-true}
+use lib.ListN.{length, take, drop, getD, set, length-append, length-drop}
+use lib.Seq.{take-suc, set-split, getD-drop, take-append-le}
 use lib.Dec.{ltb, leb}
 use Rattle.octets.specs.Choice.{choose, both}
 use Rattle.octets.specs.Part.{part, splice}
+use Rattle.octets.specs.Number.{fromLe}
+use Rattle.octets.proofs.ChoiceLaws.{both-first, both-second}
 use Rattle.octets.proofs.PartLaws.{length-part, length-splice, byte-apart, splice-splice}
 use Rattle.day.specs.declared.frame.Frame.{Frame}
 use Rattle.day.specs.declared.frame.Frame.the-variants.{Message, Overlong, Partial}
@@ -60,3 +62,24 @@ kept-more xs from i h =
     ∙ ap (λ (j : ℕ). splice d j (getD xs (from + i) 0 ∷ [])) place
     ∙ splice-splice xs ys (getD xs (from + i) 0 ∷ []) 0 (omega (arith, n))
     ∙ ap (splice xs 0) more
+
+-- ---- what is whole stays what it is, whatever comes behind it
+
+length-more : (xs ys : List ℕ) → lengthSize ≤ length xs → lengthOf (xs ++ ys) ≡ lengthOf xs
+length-more xs ys h = ap fromLe (take-append-le lengthSize xs ys h)
+
+pub whole-length : (xs : List ℕ) → isWhole xs ≡ true → (lengthSize ≤ length xs) × (lengthSize + lengthOf xs ≤ length xs)
+whole-length xs e =
+    (leb-true lengthSize (length xs) (both-first _ _ e), leb-true (lengthSize + lengthOf xs) (length xs) (both-second (leb lengthSize (length xs)) _ e))
+
+whole-more : (xs ys : List ℕ) → isWhole xs ≡ true → isWhole (xs ++ ys) ≡ true
+whole-more xs ys e =
+    let h = whole-length xs e in
+    let n : length (xs ++ ys) ≡ length xs + length ys = length-append xs ys in
+    let two : leb lengthSize (length (xs ++ ys)) ≡ true = le-leb lengthSize (length (xs ++ ys)) (omega (arith, h .0, n)) in
+    let all : leb (lengthSize + lengthOf (xs ++ ys)) (length (xs ++ ys)) ≡ true = le-leb _ (length (xs ++ ys)) (omega (arith, h .1, n, length-more xs ys (h .0))) in
+    rw (two, all)
+
+pub frame-more : (longest : ℕ) (xs ys : List ℕ) → isWhole xs ≡ true → frameOf longest (xs ++ ys) ≡ frameOf longest xs
+unfolding frameOf
+frame-more longest xs ys e = rw (whole-more xs ys e, e, length-more xs ys (whole-length xs e .0))

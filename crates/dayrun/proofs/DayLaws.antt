@@ -1,14 +1,23 @@
 -- Laws of specs/Day.antt. Assumes nothing.
-use Prim.Native.Nat.{ℕ, _+_}
-use mathlib.Core.Path.{_≡_, ap}
-use mathlib.Core.List.{List}
+use Prim.Native.Nat.{ℕ, _+_, _≤_}
+use mathlib.Core.Bool.{true, false}
+use mathlib.Core.Path.{_≡_, refl, sym, ap, _∙_}
+use mathlib.Core.List.{List, [], _∷_, _++_}
+use native.Mathlib.Decide.{decLt}
+use native.Mathlib.Omega.{arith}
+use borrow.Author.Tests.{ne-eqb}
+use lib.ListN.{length, take, drop, length-drop}
+use lib.Seq.{take-append-le, drop-append-le}
+use lib.Dec.{eqb}
 use Rattle.octets.specs.Part.{part}
 use Rattle.rules.specs.Verdicts.{layoutWrong}
 use Rattle.submission.specs.Opening.{documentLimits}
 use Rattle.submission.specs.Submission.{submitted, refused}
 use Rattle.day.specs.declared.frame.Frame.the-variants.{Message, Overlong, Partial}
-use Rattle.day.specs.Frame.{lengthSize, frameOf}
-use Rattle.dayrun.specs.Day.{Day, Step, answered, stepOn, step}
+use Rattle.day.specs.Frame.{lengthSize, lengthOf, isWhole, frameOf}
+use Rattle.day.proofs.FrameLaws.{whole-length, frame-more, too-long, a-message}
+use Rattle.dayrun.specs.Day.{Day, Step, answered, stepOn, step, reportFrom}
+use Rattle.dayrun.specs.Blocks.{Judged-at-once}
 
 -- ---- a step, by what stands at the front
 
@@ -24,3 +33,44 @@ module _ (d : Day) (xs : List ℕ) where
   pub step-partial : frameOf (documentLimits .longest) xs ≡ Partial → step d xs ≡ stepOn d xs Partial
   unfolding step
   step-partial e = ap (stepOn d xs) e
+
+-- ---- reading in pieces
+
+-- the part of the message is there
+part-more : (xs ys : List ℕ) (at n : ℕ) → at + n ≤ length xs → part (xs ++ ys) at n ≡ part xs at n
+part-more xs ys at n h =
+    ap (take n) (drop-append-le at xs ys (omega arith)) ∙ take-append-le n (drop at xs) ys (omega (arith, length-drop at xs))
+
+-- a message that has come whole comes to the same
+pub step-more : (d : Day) (xs ys : List ℕ) → isWhole xs ≡ true → step d (xs ++ ys) ≡ step d xs
+step-more d xs ys e =
+    let h : (lengthSize ≤ length xs) × (lengthSize + lengthOf xs ≤ length xs) = whole-length xs e in
+    let more = frame-more (documentLimits .longest) xs ys e in
+    elim (decLt (documentLimits .longest) (lengthOf xs)) [
+      | yes long ↦
+          let f = too-long (documentLimits .longest) xs (h .0) (h .1) long in
+          step-overlong d (xs ++ ys) (lengthOf xs) (more ∙ f) ∙ sym (step-overlong d xs (lengthOf xs) f)
+      | no short ↦
+          let f = a-message (documentLimits .longest) xs (h .0) (h .1) (omega (arith, short)) in
+          step-message d (xs ++ ys) (lengthOf xs) (more ∙ f)
+          ∙ ap (λ (m : List ℕ). answered d (lengthOf xs) (submitted documentLimits (d .ledger) (d .tape) m)) (part-more xs ys lengthSize (lengthOf xs) (h .1))
+          ∙ sym (step-message d xs (lengthOf xs) f)
+    ]
+
+-- and takes its length and its bytes
+step-takes : (d : Day) (xs : List ℕ) → isWhole xs ≡ true → step d xs .taken ≡ lengthSize + lengthOf xs
+step-takes d xs e =
+    let h : (lengthSize ≤ length xs) × (lengthSize + lengthOf xs ≤ length xs) = whole-length xs e in
+    elim (decLt (documentLimits .longest) (lengthOf xs)) [
+      | yes long ↦ ap (λ (s : Step). s .taken) (step-overlong d xs (lengthOf xs) (too-long (documentLimits .longest) xs (h .0) (h .1) long))
+      | no short ↦ ap (λ (s : Step). s .taken) (step-message d xs (lengthOf xs) (a-message (documentLimits .longest) xs (h .0) (h .1) (omega (arith, short))))
+    ]
+
+pub judged-at-once : Judged-at-once
+unfolding reportFrom
+judged-at-once k d xs ys e =
+    let h : (lengthSize ≤ length xs) × (lengthSize + lengthOf xs ≤ length xs) = whole-length xs e in
+    let n : step d xs .taken ≡ lengthSize + lengthOf xs = step-takes d xs e in
+    let some : eqb (step d xs .taken) 0 ≡ false = ne-eqb (step d xs .taken) 0 (λ z. omega (arith, n, z)) in
+    let rest : drop (step d xs .taken) (xs ++ ys) ≡ drop (step d xs .taken) xs ++ ys = drop-append-le (step d xs .taken) xs ys (omega (arith, n, h .1)) in
+    rw (step-more d xs ys e, some, rest)

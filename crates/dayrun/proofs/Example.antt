@@ -1,0 +1,29 @@
+-- Document 01's example of a day, computed. Assumes nothing.
+use mathlib.Core.Path.{refl}
+use Rattle.octets.specs.Field.{field}
+use Rattle.octets.specs.Fields.{bytesOf}
+use Rattle.octets.specs.Number.{fromLe, toLe, digits}
+use Rattle.octets.specs.Part.{splice}
+use Rattle.octets.specs.Same.{sameBytes, place, oneOf, beside}
+use Rattle.octets.specs.Search.{firstFrom, allFrom}
+use Rattle.octets.specs.Text.{text}
+use Rattle.message.specs.Layout.{u16At, entryRight, layoutRight}
+use Rattle.message.specs.Values.{entryFrom, endOf, valueAt, value}
+use Rattle.actions.specs.Actions.{actionOf}
+use Rattle.actions.specs.Elements.{known, hasLayout}
+use Rattle.notional.specs.Masking.{isCap}
+use Rattle.notional.specs.Rounding.{bands, stepIn, step, nearest, rounded}
+use Rattle.rules.specs.Findings.{lowest, firstBroken}
+use Rattle.rules.specs.Rules.{rulesOf, rulesFor}
+use Rattle.ledger.specs.Header.{rowsInUse, firstRow, nextIdentifier, capsIn, sizeOfRows, capacityIn, capFor, areCaps, capacityFor, headerRight, headerFields, capFields, newHeader}
+use Rattle.submission.specs.Opening.{openingRules, openingVerdict, opened}
+use Rattle.submission.specs.Submission.{submissionRules, verdictOn, submitted}
+use Rattle.day.specs.Frame.{frameOf}
+use Rattle.day.specs.Report.{digitsFrom, digitCount, decimal, line, heading, reportLine, lastLine}
+use Rattle.dayrun.specs.Day as day
+use Rattle.dayrun.specs.Blocks.{Documents-example}
+
+pub documents-example : Documents-example
+unfolding
+    field bytesOf fromLe toLe digits splice sameBytes place oneOf beside firstFrom allFrom text u16At entryRight layoutRight entryFrom endOf valueAt value actionOf known hasLayout isCap bands stepIn step nearest rounded lowest firstBroken rulesOf rulesFor rowsInUse firstRow nextIdentifier capsIn sizeOfRows capacityIn capFor areCaps capacityFor headerRight headerFields capFields newHeader openingRules openingVerdict opened submissionRules verdictOn submitted frameOf digitsFrom digitCount decimal line heading reportLine lastLine day.linesOf day.step day.reportFrom day.dayReport
+documents-example = refl
