@@ -1,5 +1,5 @@
 // The input comes in blocks. What is left of a block, a message that is not whole yet, is kept for the next.
-ghost use Prim.Native.Nat.{_+_, _-_, _≤_};
+ghost use Prim.Native.Nat.{_+_, _-_, _^_, _<_, _≤_};
 ghost use mathlib.Core.Path.{_≡_};
 ghost use lib.ListN.{length};
 ghost use Rattle.octets.specs.Part.{part, splice};
@@ -19,6 +19,7 @@ pub const INPUT_SIZE: usize = LONGEST_FRAME + BLOCK_SIZE;
 pub fn read_block(input: &mut [u8], kept: usize) -> usize
     requires { ⌜ kept + blockSize ≤ length (now input) ⌝ }
     ensures { λ r. ⌜ kept + r ≤ length (now (input .exit)) ⌝ }
+    ensures { λ r. ⌜ kept + r < 2 ^ 64 ⌝ }
 {
     let got = libc::read(STDIN_FILENO, &mut input[kept..]);
     io::count(got, &input[kept..])

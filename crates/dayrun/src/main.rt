@@ -4,6 +4,8 @@ mod judging;
 mod output;
 mod run;
 
+ghost use mathlib.Core.Path.{_≡_};
+ghost use Rattle.dayrun.specs.Day.{newDay};
 use input::INPUT_SIZE;
 use ledger::Caps;
 use ledger::HEADER_SIZE;
@@ -19,7 +21,10 @@ const CAP: u64 = 250_000_000;
 
 const LEDGER_SIZE: usize = HEADER_SIZE + ROWS * ROW_SIZE;
 
-fn main() {
+// The ledger before the first message.
+fn new_ledger() -> [u8; LEDGER_SIZE]
+    ensures { λ r. ⌜ r ≡ newDay .ledger ⌝ }
+{
     let mut ledger = [0u8; LEDGER_SIZE];
     let caps = Caps {
         cr: CAP,
@@ -29,6 +34,11 @@ fn main() {
         co: CAP,
     };
     repository::open(&mut ledger, caps, LARGEST_CAPACITY);
+    ledger
+}
+
+fn main() {
+    let mut ledger = new_ledger();
     let mut tape = [0u8; LINE_SIZE];
     let mut input = [0u8; INPUT_SIZE];
     let mut out = [0u8; OUTPUT_SIZE];

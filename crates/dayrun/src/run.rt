@@ -3,7 +3,7 @@ ghost use Prim.Native.Nat.{ℕ, _+_, _≤_};
 ghost use mathlib.Core.Path.{_≡_};
 ghost use lib.ListN.{length};
 ghost use Rattle.day.specs.Frame.{longestFrame};
-ghost use Rattle.day.specs.Report.{longestLine};
+ghost use Rattle.day.specs.Report.{heading, longestLine, Put};
 ghost use Rattle.dayrun.specs.Progress.{writeSize, blockSize, Within, Leaves, atFront};
 use crate::input::can_wait;
 use crate::input::keep_rest;
@@ -24,8 +24,8 @@ const MOST_READS: u64 = u64::MAX;
 // The first line waits to be written.
 fn start(out: &mut [u8]) -> Progress
     requires { ⌜ writeSize + longestLine ≤ length (now out) ⌝ }
+    ensures { λ r. ⌜ Put (now (out .entry)) 0 heading (now (out .exit)) (r .used) ⌝ }
     ensures { λ r. ⌜ Within 0 writeSize r ⌝ }
-    ensures { λ r. ⌜ r .at ≡ 0 ⌝ }
 {
     let used = write_heading(out, 0);
     Progress {
