@@ -5,6 +5,7 @@ ghost use lib.ListN.{length, drop};
 ghost use Rattle.octets.specs.Part.{splice};
 ghost use Rattle.day.specs.Report.{longestLine, reportLine};
 ghost use Rattle.dayrun.specs.Day.{mostMessages, linesOf, step};
+ghost use Rattle.dayrun.specs.Blocks.{Judged-at-once};
 ghost use Rattle.dayrun.specs.Progress.{counted, dayOf, progressAfter, Steps};
 use day::Frame;
 use day::LENGTH_SIZE;
@@ -74,6 +75,7 @@ pub fn judge_next(
     ensures { λ _. ⌜ now (ledger .exit) ≡ step (dayOf (now (ledger .entry)) (now (tape .entry)) p) (drop (p .at) (now (input .entry))) .after .ledger ⌝ }
     ensures { λ _. ⌜ now (tape .exit) ≡ step (dayOf (now (ledger .entry)) (now (tape .entry)) p) (drop (p .at) (now (input .entry))) .after .tape ⌝ }
     ensures { λ r. ⌜ Steps (length (now (input .entry))) p r ⌝ }
+    ensures { λ _. ⌜ Judged-at-once ⌝ }
 {
     let at = p.at;
     let rest = &input[at..];

@@ -18,7 +18,7 @@ use Rattle.day.specs.Frame.{lengthSize, frameOf, longestFrame, Fits}
 use Rattle.dayrun.specs.declared.judging.Progress.{Progress}
 use Rattle.dayrun.specs.Day.{Step, answered, stepOn, step}
 use Rattle.dayrun.specs.Progress.{dayOf, progressAfter}
-use Rattle.dayrun.proofs.DayLaws.{step-message, step-overlong, step-partial}
+use Rattle.dayrun.proofs.DayLaws.{step-message, step-overlong, step-partial, judged-at-once}
 use Rattle.dayrun.proofs.ProgressLaws.{told-progress, told-line, unmoved, one-further, no-further}
 use Rattle.dayrun.proofs.judging.judge_next.Statement.{statement}
 use Rattle.dayrun.proofs.judging.judge_next.Tie as tie
@@ -85,7 +85,7 @@ returns c =
           k .submit .ensures .1 .0 ∙ ap (λ (x : List ℕ). judged x .ledger) sent ∙ ap (λ (x : Step). x .after .ledger) (sym told),
           (
             k .submit .ensures .1 .1 ∙ ap (λ (x : List ℕ). judged x .tape) sent ∙ ap (λ (x : Step). x .after .tape) (sym told),
-            one-further _ (lengthSize + size) (a .p) _ (message-fits n) (omega arith) (start f .pre .1 .1 .1) (r .report .ensures .1 .1),
+            (one-further _ (lengthSize + size) (a .p) _ (message-fits n) (omega arith) (start f .pre .1 .1 .1) (r .report .ensures .1 .1), judged-at-once),
           ),
         ),
       ),
@@ -108,7 +108,7 @@ returns-2 c =
           ap (λ (x : Step). x .after .ledger) (sym told),
           (
             ap (λ (x : Step). x .after .tape) (sym told),
-            one-further _ (lengthSize + size) (a .p) _ (overlong-fits n) (omega arith) (start f .pre .1 .1 .1) (r .report2 .ensures .1 .1),
+            (one-further _ (lengthSize + size) (a .p) _ (overlong-fits n) (omega arith) (start f .pre .1 .1 .1) (r .report2 .ensures .1 .1), judged-at-once),
           ),
         ),
       ),
@@ -128,7 +128,7 @@ returns-3 c =
           ap (λ (x : Step). x .after .ledger) (sym told),
           (
             ap (λ (x : Step). x .after .tape) (sym told),
-            no-further _ (a .p) (search needs) (search needs) (search needs) (omega (arith, short, length-drop (a .p .at) (now (a .input)))),
+            (no-further _ (a .p) (search needs) (search needs) (search needs) (omega (arith, short, length-drop (a .p .at) (now (a .input)))), judged-at-once),
           ),
         ),
       ),

@@ -30,7 +30,7 @@ returns : tie.Need-returns Inv-loop μ-loop
 returns c =
     let j = c .before .before .before .before .before .before .before .before in
     let w = j .before .before .before .before .before .before .before .loop .inv .3 in
-    let s = j .judge-next .ensures .1 .1 .1 .1 in
+    let s = j .judge-next .ensures .1 .1 .1 .1 .0 in
     let stays = s .stays (c .if2 .taken) in (
       record { passed = s .within .passed; waiting = omega (arith, stays .1, w .waiting); lines = s .within .lines; messages = s .within .messages },
       λ _ _. omega (arith, stays .0, c .if2 .taken),
@@ -39,13 +39,13 @@ returns c =
 loop-less : tie.Need-loop-less Inv-loop μ-loop
 loop-less c =
     let e = c .before .before in
-    let s = e .before .before .before .before .before .before .before .before .judge-next .ensures .1 .1 .1 .1 in
+    let s = e .before .before .before .before .before .before .before .before .judge-next .ensures .1 .1 .1 .1 .0 in
     omega (arith, c .write-enough .ensures .1 .1, s .within .messages, s .counts (omega (arith, s .forward, e .if2 .left)))
 
 loop-again : tie.Need-loop-again Inv-loop μ-loop
 loop-again c =
     let e = c .before .before in
-    let s = e .before .before .before .before .before .before .before .before .judge-next .ensures .1 .1 .1 .1 in
+    let s = e .before .before .before .before .before .before .before .before .judge-next .ensures .1 .1 .1 .1 .0 in
     let l = e .before .before .before .before .before .before .before .before .before .before .before .before .before .before .before .loop .inv in
     (omega (arith, l .0, e .before .before .before .before .before .before .before .ledger .given), omega (arith, l .1, e .before .before .before .before .before .tape .given), omega (arith, l .2, e .before .before .before .out .given), c .write-enough .ensures .0 _ _ (s .within))
 
