@@ -70,7 +70,7 @@ impl Reading<'_> {
         match read_line(line.text).map_err(fault)? {
             ReportLine::Message { position, answer } => {
                 let message = self.message(position, &answer).map_err(fault)?;
-                write_message(position, message, out)?;
+                write_message(position, message, answer.verdict, out)?;
                 write_answer(&answer, out)?;
                 self.judged += 1;
                 self.published += u64::from(answer.identifier != 0);
@@ -106,7 +106,7 @@ impl Reading<'_> {
         if answer.verdict != 0 && answer.identifier != 0 {
             return Err("a refused message has no tape line, but the line gives one".to_string());
         }
-        let refused_so = answer.verdict == 5 && answer.element == 0;
+        let refused_so = answer.verdict == names::LAYOUT_WRONG && answer.element == 0;
         if message.len() > names::LONGEST_MESSAGE && !refused_so {
             return Err(format!(
                 "message {due} is longer than 2,048 bytes, which gives verdict 5 and element 0"

@@ -69,6 +69,9 @@ pub const UTI: u16 = 1;
 pub const ACTION_TYPE: u16 = 2;
 pub const EVENT_TYPE: u16 = 3;
 
+/// The verdict on a message whose layout is wrong.
+pub const LAYOUT_WRONG: u64 = 5;
+
 /// The longest message; a longer one is passed over.
 pub const LONGEST_MESSAGE: usize = 2048;
 

@@ -6,8 +6,15 @@ use crate::report::Answer;
 use crate::values::shown;
 use std::io::{self, Write};
 
-/// Tells the swap, the action and the event, as far as they can be read.
-pub fn write_message(position: u64, message: &[u8], out: &mut impl Write) -> io::Result<()> {
+/// Tells the swap, the action and the event. Of a message whose layout is wrong
+/// nobody can say where they stand; what its header leads to is told, and that
+/// it is no more than that.
+pub fn write_message(
+    position: u64,
+    message: &[u8],
+    verdict: u64,
+    out: &mut impl Write,
+) -> io::Result<()> {
     let length = message.len();
     if length > names::LONGEST_MESSAGE {
         return writeln!(
@@ -17,7 +24,11 @@ pub fn write_message(position: u64, message: &[u8], out: &mut impl Write) -> io:
     }
     let mut words = vec![swap_words(message), action_words(message)];
     words.extend(event_words(message));
-    writeln!(out, "message {position}: {}", words.join(", "))
+    let lead = match verdict {
+        names::LAYOUT_WRONG => "as far as it can be read: ",
+        _ => "",
+    };
+    writeln!(out, "message {position}: {lead}{}", words.join(", "))
 }
 
 fn swap_words(message: &[u8]) -> String {

@@ -91,7 +91,7 @@ fn an_overlong_message() {
     gives(
         &longest,
         &report("1 5 0 0", "end 1 0"),
-        &format!("message 1: swap {start}..., no action\n{verdict}"),
+        &format!("message 1: as far as it can be read: swap {start}..., no action\n{verdict}"),
     );
 }
 
@@ -99,7 +99,7 @@ fn an_overlong_message() {
 #[track_caller]
 fn first_line(message: &[u8], words: &str) {
     let words = format!(
-        "message 1: {words}\n  refused (verdict 5): message layout wrong\n\
+        "message 1: as far as it can be read: {words}\n  refused (verdict 5): message layout wrong\n\
          end: all input was read; messages judged: 1, tape lines published: 0\n"
     );
     gives(
