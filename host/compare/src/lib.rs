@@ -7,6 +7,8 @@
 
 pub mod compared;
 pub mod cycles;
+pub mod dayrun;
+pub mod days;
 pub mod faults;
 pub mod garbage;
 pub mod guarded;
