@@ -5,6 +5,7 @@
 //! submitted comes from generators ([`sound`], [`faults`], [`cycles`]) that
 //! also say, from the paper, which verdict is due.
 
+pub mod calls;
 pub mod compared;
 pub mod cycles;
 pub mod dayrun;

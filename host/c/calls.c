@@ -1,0 +1,68 @@
+/* Counts the calls of read on standard input and of write on standard output. A program is lent this by LD_PRELOAD.
+   At its exit the two counts go to the file that CALLS_FILE names.
+   CALLS_SIZES may hold numbers with a comma between them: a read then gives no more bytes than the next of them says, and
+   after the last comes the first again. CALLS_WRITE may hold a number: a write then takes no more bytes than that. */
+#define _GNU_SOURCE
+#include <dlfcn.h>
+#include <stdio.h>
+#include <stdlib.h>
+#include <unistd.h>
+
+typedef ssize_t read_call(int file, void *bytes, size_t length);
+typedef ssize_t write_call(int file, const void *bytes, size_t length);
+
+static unsigned long reads;
+static unsigned long writes;
+
+static size_t least(size_t one, size_t other)
+{
+    return one < other ? one : other;
+}
+
+static size_t next_size(size_t length)
+{
+    static const char *next = "";
+    const char *sizes = getenv("CALLS_SIZES");
+    char *end;
+    size_t size;
+
+    if (sizes == NULL || *sizes == '\0')
+        return length;
+    if (*next == '\0')
+        next = sizes;
+    size = strtoul(next, &end, 10);
+    next = *end == ',' ? end + 1 : end;
+    return least(length, size);
+}
+
+ssize_t read(int file, void *bytes, size_t length)
+{
+    read_call *call = (read_call *)dlsym(RTLD_NEXT, "read");
+
+    if (file != STDIN_FILENO)
+        return call(file, bytes, length);
+    reads++;
+    return call(file, bytes, next_size(length));
+}
+
+ssize_t write(int file, const void *bytes, size_t length)
+{
+    write_call *call = (write_call *)dlsym(RTLD_NEXT, "write");
+    const char *most = getenv("CALLS_WRITE");
+
+    if (file != STDOUT_FILENO)
+        return call(file, bytes, length);
+    writes++;
+    return call(file, bytes, most == NULL ? length : least(length, strtoul(most, NULL, 10)));
+}
+
+__attribute__((destructor)) static void tell(void)
+{
+    const char *name = getenv("CALLS_FILE");
+    FILE *file = name == NULL ? NULL : fopen(name, "w");
+
+    if (file == NULL)
+        return;
+    fprintf(file, "%lu %lu\n", reads, writes);
+    fclose(file);
+}
