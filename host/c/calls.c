@@ -1,9 +1,11 @@
 /* Counts the calls of read on standard input and of write on standard output. A program is lent this by LD_PRELOAD.
    At its exit the two counts go to the file that CALLS_FILE names.
    CALLS_SIZES may hold numbers with a comma between them: a read then gives no more bytes than the next of them says, and
-   after the last comes the first again. CALLS_WRITE may hold a number: a write then takes no more bytes than that. */
+   after the last comes the first again. CALLS_FAIL may hold a number: after so many reads all further ones fail. CALLS_WRITE may
+   hold a number: a write then takes no more bytes than that. */
 #define _GNU_SOURCE
 #include <dlfcn.h>
+#include <errno.h>
 #include <stdio.h>
 #include <stdlib.h>
 #include <unistd.h>
@@ -17,6 +19,14 @@ static unsigned long writes;
 static size_t least(size_t one, size_t other)
 {
     return one < other ? one : other;
+}
+
+/* The number that a variable holds, or the largest. */
+static size_t number(const char *name)
+{
+    const char *text = getenv(name);
+
+    return text == NULL ? (size_t)-1 : strtoul(text, NULL, 10);
 }
 
 static size_t next_size(size_t length)
@@ -42,18 +52,21 @@ ssize_t read(int file, void *bytes, size_t length)
     if (file != STDIN_FILENO)
         return call(file, bytes, length);
     reads++;
+    if (reads > number("CALLS_FAIL")) {
+        errno = EIO;
+        return -1;
+    }
     return call(file, bytes, next_size(length));
 }
 
 ssize_t write(int file, const void *bytes, size_t length)
 {
     write_call *call = (write_call *)dlsym(RTLD_NEXT, "write");
-    const char *most = getenv("CALLS_WRITE");
 
     if (file != STDOUT_FILENO)
         return call(file, bytes, length);
     writes++;
-    return call(file, bytes, most == NULL ? length : least(length, strtoul(most, NULL, 10)));
+    return call(file, bytes, least(length, number("CALLS_WRITE")));
 }
 
 __attribute__((destructor)) static void tell(void)

@@ -116,19 +116,18 @@ impl Running {
         _ = input.send(piece.to_vec());
     }
 
-    /// Waits until at least so many bytes have been written. False where they
-    /// do not come.
-    pub fn wait_for(&mut self, length: usize) -> bool {
+    /// Waits until this has been written, or until it cannot be any more: the
+    /// bytes differ, none come, or the output has ended.
+    pub fn wait_for(&mut self, due: &[u8]) {
         let start = Instant::now();
-        while self.received.len() < length {
+        while self.received.len() < due.len() && due.starts_with(&self.received) {
             let left = LIMIT.saturating_sub(start.elapsed());
             let output = self.output.as_ref().expect("the output is a pipe");
             match output.recv_timeout(left) {
                 Ok(piece) => self.received.extend(piece),
-                Err(_) => return false,
+                Err(_) => break,
             }
         }
-        true
     }
 
     /// Lets the reader of the output go away.
@@ -234,12 +233,12 @@ pub fn check_lines(day: &[u8], output: &[u8], due: &[u8], what: &str) {
         None => String::from("nothing"),
     };
     panic!(
-        "{what}: a day of {} bytes: line {} of the report is {} and has to be {}\nmessage {place}: {}",
+        "{what}: a day of {} bytes: line {} of the report is {} and has to be {}\n{}",
         day.len(),
         place + 1,
         shown(&written),
         shown(&wanted),
-        days::message_at(day, place)
+        days::subject_of(day, place)
     );
 }
 

@@ -44,15 +44,17 @@ pub fn messages(day: &[u8]) -> Vec<&[u8]> {
     found
 }
 
-/// The message at a position from 1, for a report of a failure.
-pub fn message_at(day: &[u8], position: usize) -> String {
+/// What a line of the report is about, counted from 0, for the text of a
+/// failure: the heading, a message, or the last line.
+pub fn subject_of(day: &[u8], line: usize) -> String {
     let messages = messages(day);
-    match position.checked_sub(1).and_then(|at| messages.get(at)) {
-        Some(message) if message.len() > LONGEST => {
-            format!("message of {} bytes, to be passed over\n", message.len())
+    match line.checked_sub(1).map(|at| messages.get(at)) {
+        None => String::from("the heading"),
+        Some(None) => format!("the line after {} messages", messages.len()),
+        Some(Some(message)) if message.len() > LONGEST => {
+            format!("message {line}, {} bytes to be passed over", message.len())
         }
-        Some(message) => described(message),
-        None => format!("no whole message; the day has {}\n", messages.len()),
+        Some(Some(message)) => format!("message {line}: {}", described(message)),
     }
 }
 

@@ -31,13 +31,12 @@ fn check_stops(day: &[u8], stops: &[usize], what: &str) {
         running.send(&day[start..stop]);
         start = stop;
         let due = due_so_far(&day[..stop]);
-        let came = running.wait_for(due.len());
-        let what = format!("{what}, input kept open after {stop} bytes");
-        // The heading alone is due at no time before the first line.
+        running.wait_for(&due);
+        // Whether the heading comes before the first line is left open.
         if !due.is_empty() {
+            let what = format!("{what}, input kept open after {stop} bytes");
             check_lines(day, &running.received, &due, &what);
         }
-        assert!(came, "{what}: the lines do not come");
     }
     running.send(&day[start..]);
     check(day, &running.end(), &report(day), what);
@@ -264,6 +263,25 @@ fn a_reader_that_goes_away_does_not_stop_the_end() {
             running.stop_reading();
             running.end();
         }
+    }
+}
+
+#[test]
+fn a_read_that_fails_after_others_is_the_end_of_input() {
+    let library = Library::compile();
+    let messages = [new_swap(0), new_swap(1), vec![b'x'; 3_000], new_swap(2)];
+    let day = days::of(&messages);
+    // Each read gives as many bytes as the size says, up to the one that fails.
+    let whole = framed(&new_swap(0)).len();
+    for (size, reads) in [(1, 300), (whole, 1), (whole + 2, 2), (500, 2), (1_000, 3)] {
+        let file = Temporary::holding(&day);
+        let mut command = on_file(&file);
+        command.env("CALLS_SIZES", size.to_string());
+        command.env("CALLS_FAIL", reads.to_string());
+        let (ended, calls) = library.run(command);
+        let what = format!("{reads} reads of {size} bytes");
+        check(&day, &ended, &report(&day[..size * reads]), &what);
+        assert!(calls.reads > reads, "{what}: none has failed");
     }
 }
 
