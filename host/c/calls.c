@@ -1,8 +1,8 @@
 /* Counts the calls of read on standard input and of write on standard output. A program is lent this by LD_PRELOAD.
    At its exit the two counts go to the file that CALLS_FILE names.
    CALLS_SIZES may hold numbers with a comma between them: a read then gives no more bytes than the next of them says, and
-   after the last comes the first again. CALLS_FAIL may hold a number: after so many reads all further ones fail. CALLS_WRITE may
-   hold a number: a write then takes no more bytes than that. */
+   after the last comes the first again. CALLS_FAIL may hold a number: after so many bytes every read fails. CALLS_WRITE may hold
+   a number: a write then takes no more bytes than that. */
 #define _GNU_SOURCE
 #include <dlfcn.h>
 #include <errno.h>
@@ -14,6 +14,7 @@ typedef ssize_t read_call(int file, void *bytes, size_t length);
 typedef ssize_t write_call(int file, const void *bytes, size_t length);
 
 static unsigned long reads;
+static size_t given;
 static unsigned long writes;
 
 static size_t least(size_t one, size_t other)
@@ -48,15 +49,20 @@ static size_t next_size(size_t length)
 ssize_t read(int file, void *bytes, size_t length)
 {
     read_call *call = (read_call *)dlsym(RTLD_NEXT, "read");
+    size_t left = number("CALLS_FAIL") - given;
+    ssize_t result;
 
     if (file != STDIN_FILENO)
         return call(file, bytes, length);
     reads++;
-    if (reads > number("CALLS_FAIL")) {
+    if (left == 0) {
         errno = EIO;
         return -1;
     }
-    return call(file, bytes, next_size(length));
+    result = call(file, bytes, least(next_size(length), left));
+    if (result > 0)
+        given += (size_t)result;
+    return result;
 }
 
 ssize_t write(int file, const void *bytes, size_t length)

@@ -270,18 +270,24 @@ fn a_reader_that_goes_away_does_not_stop_the_end() {
 fn a_read_that_fails_after_others_is_the_end_of_input() {
     let library = Library::compile();
     let messages = [new_swap(0), new_swap(1), vec![b'x'; 3_000], new_swap(2)];
-    let day = days::of(&messages);
-    // Each read gives as many bytes as the size says, up to the one that fails.
+    let day = [days::of(&messages), of_length(100_000)].concat();
     let whole = framed(&new_swap(0)).len();
-    for (size, reads) in [(1, 300), (whole, 1), (whole + 2, 2), (500, 2), (1_000, 3)] {
+    for given in [
+        1,
+        2,
+        100,
+        whole,
+        whole + 1,
+        whole + 2,
+        2 * whole + 500,
+        70_000,
+    ] {
         let file = Temporary::holding(&day);
         let mut command = on_file(&file);
-        command.env("CALLS_SIZES", size.to_string());
-        command.env("CALLS_FAIL", reads.to_string());
-        let (ended, calls) = library.run(command);
-        let what = format!("{reads} reads of {size} bytes");
-        check(&day, &ended, &report(&day[..size * reads]), &what);
-        assert!(calls.reads > reads, "{what}: none has failed");
+        command.env("CALLS_FAIL", given.to_string());
+        let (ended, _) = library.run(command);
+        let what = format!("reads fail after {given} bytes");
+        check(&day, &ended, &report(&day[..given]), &what);
     }
 }
 
