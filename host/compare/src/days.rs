@@ -169,7 +169,9 @@ fn overlong_length(random: &mut Random) -> usize {
 /// A random day of so many messages, often cut short. Now and then a length is
 /// wrong, so that what follows is read as other messages than were sent.
 pub fn random_day(random: &mut Random, count: usize) -> Vec<u8> {
-    let swaps = *random.pick(&[3, 40, 150, 430, 600]);
+    // Few swaps would all be ported early in a long day.
+    let fewest = if count > 1_000 { 2 } else { 0 };
+    let swaps = *random.pick(&[3, 40, 150, 430, 600][fewest..]);
     let mut feed = Feed::about(random, swaps);
     let damaged = random.once_in(5).then(|| random.below(count.max(1)));
     let mut day = Vec::new();
