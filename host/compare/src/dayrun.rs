@@ -3,8 +3,10 @@
 use crate::days;
 use std::fs::File;
 use std::io::{Read, Write};
+use std::os::fd::OwnedFd;
+use std::os::unix::net::UnixStream;
 use std::path::{Path, PathBuf};
-use std::process::{Child, ChildStdin, ChildStdout, Command, ExitStatus, Stdio};
+use std::process::{Child, ChildStdout, Command, ExitStatus, Stdio};
 use std::sync::atomic::{AtomicU32, Ordering};
 use std::sync::mpsc::{channel, Receiver, Sender};
 use std::thread;
@@ -109,6 +111,17 @@ impl Running {
         Running::start(command)
     }
 
+    /// Starts the day run with a socket as input that is kept open: unlike a
+    /// pipe it may give more than 65,536 bytes to one read.
+    pub fn on_socket() -> Running {
+        let (ours, theirs) = UnixStream::pair().expect("a pair of sockets");
+        let mut command = Command::new(program());
+        command.stdin(OwnedFd::from(theirs));
+        let mut running = Running::start(command);
+        running.input = Some(pieces_to(ours));
+        running
+    }
+
     /// Writes a piece to the input, without waiting until it is read.
     pub fn send(&mut self, piece: &[u8]) {
         let input = self.input.as_ref().expect("the input is a pipe");
@@ -170,7 +183,7 @@ impl Drop for Running {
 }
 
 /// A thread that writes each piece it is given.
-fn pieces_to(mut input: ChildStdin) -> Sender<Vec<u8>> {
+fn pieces_to(mut input: impl Write + Send + 'static) -> Sender<Vec<u8>> {
     let (sender, pieces) = channel::<Vec<u8>>();
     thread::spawn(move || {
         for piece in pieces {
