@@ -2,7 +2,8 @@
 
 Each entry of WRONG is a checker with one thing changed. Its tests are run twice: with the wrong checker beside the core, and
 with the wrong checker in the place of both, where only what a test states by itself can notice. Each run has to fail. Works
-on a copy of the project; needs the core's archive. Not a part of the gate: it takes some minutes.
+on a copy of the project; needs the core's archive and the program dayrun, whose place checkday takes in the second run, without
+the tests that it cannot meet. Not a part of the gate: it takes some minutes.
 """
 
 import os
@@ -45,7 +46,16 @@ WRONG = [
     ("any LEI remainder", "forms.rs", "    left == 1\n", "    left < 97\n"),
     ("an offset at the end", "message.rs", "next_start >= message.len()", "next_start > message.len()"),
     ("NEWT with ETRM", "matrix.rs", "(b\"NEWT\", Some(b\"UPDT\"))", "(b\"NEWT\", Some(b\"ETRM\"))"),
+    ("a day of 399 rows", "day.rs", "const ROWS: usize = 400;", "const ROWS: usize = 399;"),
+    ("2,048 bytes are overlong", "day.rs", "message.len() > LONGEST", "message.len() >= LONGEST"),
+    ("a lone byte is no cut", "day.rs", "[_] => Next::Cut", "[_] => Next::End"),
+    ("a message cut short is judged", "day.rs", "None => Next::Cut", "None => Next::Message(bytes, &[])"),
+    ("PRTO publishes a line", "day.rs", "if answer.identifier != 0 {", "if answer.verdict == 0 {"),
+    ("an overlong message has no position", "day.rs", "self.judged += 1;", "self.judged += u64::from(message.len() <= LONGEST);"),
 ]
+
+# tests that checkday cannot meet: it reads all input before it writes
+NOT_CHECKDAY = ["lines_come", "calls_are_few"]
 
 # the core's calls, and the checker's in their place
 CORE = [
@@ -63,45 +73,67 @@ def changed(path, old, new):
 
 
 def copied(top):
-    """A copy of the project's sources, with the archive where they look for it."""
+    """A copy of the project's sources, with the archive and the program where they look for them."""
     (top / "target").mkdir()
-    (top / "target" / "staticlib").symlink_to(HOST.parent / "target" / "staticlib")
+    for name in ("staticlib", "bin"):
+        (top / "target" / name).symlink_to(HOST.parent / "target" / name)
     for name in ("include", "crates/vectors"):
         shutil.copytree(HOST.parent / name, top / name)
     return shutil.copytree(HOST, top / "host", ignore=shutil.ignore_patterns("target"))
 
 
-def failing(host):
-    """The tests that fail, up to the first file of tests that has one; None where the tests do not even compile."""
-    command = ["cargo", "test", "--release", "--offline", "--locked", "-p", "compare", "--tests"]
-    environment = dict(os.environ, CARGO_PROFILE_RELEASE_OPT_LEVEL="1", CARGO_PROFILE_RELEASE_INCREMENTAL="true")
+def cargo(host, arguments, last=(), **more):
+    """What a cargo command prints; the profile is one that compiles quickly."""
+    environment = dict(os.environ, CARGO_PROFILE_RELEASE_OPT_LEVEL="1", CARGO_PROFILE_RELEASE_INCREMENTAL="true", **more)
+    command = ["cargo", *arguments, "--release", "--offline", "--locked", *last]
     ended = subprocess.run(command, cwd=host, env=environment, capture_output=True, text=True)
     if "could not compile" in ended.stderr:
         sys.exit(ended.stderr[-2000:])
-    return sorted(set(re.findall(r"^test (\S+) \.\.\. FAILED$", ended.stdout, re.M)))
+    return ended.stdout
+
+
+def failing(host, alone):
+    """The tests that fail, up to the first file of tests that has one; alone: checkday takes the place of dayrun."""
+    more = {}
+    skipped = []
+    if alone:
+        cargo(host, ["build", "-p", "checker", "--bin", "checkday"])
+        more["DAYRUN"] = str(host / "target/release/checkday")
+        skipped = ["--", *("--skip=" + name for name in NOT_CHECKDAY)]
+    printed = cargo(host, ["test", "-p", "compare", "--tests"], skipped, **more)
+    return sorted(set(re.findall(r"^test (\S+) \.\.\. FAILED$", printed, re.M)))
+
+
+def both_ways(host):
+    """What fails with the checker beside the core, and with the checker in the place of both."""
+    judge = host / "compare/src/judge.rs"
+    apart = judge.read_text(encoding="utf-8")
+    yield "beside the core", failing(host, False)
+    for call in CORE:
+        changed(judge, *call)
+    yield "in the place of both", failing(host, True)
+    judge.write_text(apart, encoding="utf-8")
 
 
 def main(names):
     unnoticed = 0
+    if not (HOST.parent / "target/bin/dayrun").is_file():
+        sys.exit("the program dayrun is missing: make it with rt check dayrun")
     with tempfile.TemporaryDirectory() as folder:
         host = copied(pathlib.Path(folder))
-        judge = host / "compare/src/judge.rs"
-        apart = judge.read_text(encoding="utf-8")
+        for way, found in both_ways(host):
+            if found:
+                sys.exit("the right checker, %s: %s" % (way, ", ".join(found)))
         for name, file, old, new in WRONG:
             if names and name not in names:
                 continue
             source = host / "checker/src" / file
             right = source.read_text(encoding="utf-8")
             changed(source, old, new)
-            for way in ("beside the core", "in the place of both"):
-                if way != "beside the core":
-                    for call in CORE:
-                        changed(judge, *call)
-                found = failing(host)
+            for way, found in both_ways(host):
                 unnoticed += not found
                 print("%s, %s: %s" % (name, way, ", ".join(found[:3]) or "NOT NOTICED"), flush=True)
             source.write_text(right, encoding="utf-8")
-            judge.write_text(apart, encoding="utf-8")
     print("%d runs not noticed" % unnoticed)
     sys.exit(1 if unnoticed else 0)
 

@@ -9,6 +9,7 @@
 #![forbid(unsafe_code)]
 
 mod amounts;
+pub mod day;
 mod elements;
 mod forms;
 mod judge;

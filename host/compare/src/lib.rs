@@ -5,8 +5,11 @@
 //! submitted comes from generators ([`sound`], [`faults`], [`cycles`]) that
 //! also say, from the paper, which verdict is due.
 
+pub mod calls;
 pub mod compared;
 pub mod cycles;
+pub mod dayrun;
+pub mod days;
 pub mod faults;
 pub mod garbage;
 pub mod guarded;

@@ -1,0 +1,130 @@
+//! Section "The day run": reports written by hand.
+
+mod common;
+use checker::day::report;
+use common::*;
+
+/// A message led by its length.
+fn framed(message: &[u8]) -> Vec<u8> {
+    let length = u16::try_from(message.len()).unwrap();
+    [&length.to_le_bytes(), message].concat()
+}
+
+/// What the day run writes, as text.
+fn text(input: &[u8]) -> String {
+    String::from_utf8(report(input)).unwrap()
+}
+
+/// The heading and these lines.
+fn lines(lines: &[&str]) -> String {
+    let mut text = String::from("message verdict element record\n");
+    for line in lines {
+        text += line;
+        text += "\n";
+    }
+    text
+}
+
+/// The plain NEWT about one of many swaps.
+fn newt_of(swap: usize) -> Vec<u8> {
+    laid_out(&with(newt(), 1, &format!("5493001KJTIIGC8Y1R12N{swap:06}")))
+}
+
+#[test]
+fn the_example_of_the_paper() {
+    let due = b"message verdict element record\n1 6 2 0\nend 1 0\n";
+    assert_eq!(report(&[0x02, 0x00, 0x00, 0x00]), due);
+}
+
+#[test]
+fn no_input() {
+    assert_eq!(text(b""), lines(&["end 0 0"]));
+}
+
+#[test]
+fn lengths_0_and_1() {
+    assert_eq!(text(&[0, 0]), lines(&["1 5 0 0", "end 1 0"]));
+    assert_eq!(text(&[1, 0, 7]), lines(&["1 5 0 0", "end 1 0"]));
+    assert_eq!(text(&[1, 0]), lines(&["cut 0 0"]));
+    let both = [0, 0, 1, 0, 0, 0, 0];
+    let due = lines(&["1 5 0 0", "2 5 0 0", "3 5 0 0", "end 3 0"]);
+    assert_eq!(text(&both), due);
+}
+
+/// Messages of every outcome that the last line counts, and their lines.
+fn small_day() -> Vec<(Vec<u8>, &'static str)> {
+    vec![
+        (vec![0, 0], "1 6 2 0"),
+        (laid_out(&newt()), "2 0 0 1"),
+        (vec![], "3 5 0 0"),
+        (laid_out(&modi()), "4 0 0 2"),
+        (vec![b'x'; 2_050], "5 5 0 0"),
+        (laid_out(&prto()), "6 0 0 0"),
+        (laid_out(&without(modi(), 6)), "7 7 6 0"),
+        (laid_out(&term()), "8 15 0 0"),
+        (newt_of(1), "9 0 0 3"),
+    ]
+}
+
+#[test]
+fn a_day_cut_at_every_byte() {
+    let day = small_day();
+    let bytes: Vec<u8> = day
+        .iter()
+        .flat_map(|(message, _)| framed(message))
+        .collect();
+    // after so many messages, so many lines are on the tape
+    let published = [0, 0, 1, 1, 2, 2, 2, 2, 2, 3];
+    let (mut judged, mut end) = (0, 0);
+    for cut in 0..=bytes.len() {
+        if judged < day.len() && cut == end + 2 + day[judged].0.len() {
+            judged += 1;
+            end = cut;
+        }
+        let word = if cut == end { "end" } else { "cut" };
+        let last = format!("{word} {judged} {}", published[judged]);
+        let mut due: Vec<&str> = day[..judged].iter().map(|(_, line)| *line).collect();
+        due.push(&last);
+        assert_eq!(text(&bytes[..cut]), lines(&due), "cut at {cut}");
+    }
+    assert_eq!((judged, end), (9, bytes.len()));
+}
+
+#[test]
+fn the_longest_message_and_longer_ones() {
+    // A value of 2,042 bytes is no UTI, but there is no action: 6.
+    let longest = laid_out(&Elements::from([(1, vec![b'A'; 2_042])]));
+    assert_eq!(longest.len(), 2_048);
+    let day = [framed(&longest), framed(&[&longest[..], b"A"].concat())].concat();
+    assert_eq!(text(&day), lines(&["1 6 2 0", "2 5 0 0", "end 2 0"]));
+    for length in [2_049, 4_096, 65_535] {
+        // The bytes passed over would be accepted as messages of their own.
+        let inside = framed(&newt_of(1)).repeat(300);
+        let overlong = framed(&inside[..length]);
+        let day = [overlong.clone(), overlong.clone(), framed(&newt_of(2))].concat();
+        let due = lines(&["1 5 0 0", "2 5 0 0", "3 0 0 1", "end 3 1"]);
+        assert_eq!(text(&day), due, "{length}");
+        for cut in [1, 2, 3, length, length + 1] {
+            let day = [&overlong, &overlong[..cut]].concat();
+            assert_eq!(text(&day), lines(&["1 5 0 0", "cut 1 0"]), "{length} {cut}");
+        }
+    }
+}
+
+#[test]
+fn the_401st_swap_finds_no_row() {
+    let mut day = Vec::new();
+    let mut due = String::from("message verdict element record\n");
+    for swap in 1..=400 {
+        day.extend(framed(&newt_of(swap)));
+        due += &format!("{swap} 0 0 {swap}\n");
+    }
+    day.extend(framed(&newt_of(401)));
+    due += "401 17 0 0\n";
+    assert_eq!(text(&day), format!("{due}end 401 400\n"));
+    // A swap that has a row goes on.
+    let modi = with(modi(), 1, "5493001KJTIIGC8Y1R12N000400");
+    day.extend(framed(&laid_out(&modi)));
+    due += "402 0 0 401\n";
+    assert_eq!(text(&day), format!("{due}end 402 401\n"));
+}
