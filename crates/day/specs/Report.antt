@@ -1,5 +1,5 @@
 -- Document 01, 'The day run': the lines of the report.
-use Prim.Native.Nat.{ℕ, zero, suc, _+_, _-_, _*_, _/_}
+use Prim.Native.Nat.{ℕ, zero, suc, _+_, _-_, _*_, _/_, _^_, _<_, _≤_}
 use Prim.Native.Char.{code}
 use mathlib.Core.Bool.{Bool}
 use mathlib.Core.Path.{_≡_}
@@ -28,6 +28,11 @@ digitCount n = digitsFrom (mostDigits - 1) 1 n
 
 unfoldable pub decimal : ℕ → List ℕ
 decimal n = digits (digitCount n) n
+
+-- the digits hold the number, and no fewer do
+abbrev pub Decimal-fewest : Type 0
+Decimal-fewest =
+    (n : ℕ) → n < 10 ^ mostDigits → (n < 10 ^ digitCount n) × (1 < digitCount n → 10 ^ (digitCount n - 1) ≤ n)
 
 -- ---- one space stands between fields and a newline ends every line
 

@@ -3,7 +3,7 @@ ghost use mathlib.Core.Path.{_≡_};
 ghost use mathlib.Core.List.{[], _∷_, _++_};
 ghost use Prim.Native.Nat.{_+_, _≤_};
 ghost use lib.ListN.{length};
-ghost use Rattle.day.specs.Report.{digitCount, decimal, mostDigits, longestLine, heading, reportLine, lastWord, lastLine, space, Put};
+ghost use Rattle.day.specs.Report.{digitCount, Decimal-fewest, decimal, mostDigits, longestLine, heading, reportLine, lastWord, lastLine, space, Put};
 use octets::copy_at;
 use octets::digits_at;
 use octets::fill_at;
@@ -17,6 +17,7 @@ pub const LONGEST_LINE: usize = 4 * (MOST_DIGITS + 1);
 // The number of digits of n.
 fn digit_count(n: u64) -> usize
     ensures { λ r. ⌜ (r ≡ digitCount n) × (r ≤ mostDigits) ⌝ }
+    ensures { λ _. ⌜ Decimal-fewest ⌝ }
 {
     let mut rest = n;
     let mut count: usize = 1;

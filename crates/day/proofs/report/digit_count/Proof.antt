@@ -4,6 +4,7 @@ use mathlib.Core.Path.{_≡_, refl, sym, _∙_}
 use native.Mathlib.Omega.{arith}
 use borrow.Author.Needs.{needs}
 use Rattle.day.specs.Report.{mostDigits, digitsFrom, digitCount}
+use Rattle.day.proofs.DecimalLaws.{decimal-fewest}
 use Rattle.day.proofs.ReportLaws.{digits-more, digits-stop, digits-end}
 use Rattle.day.proofs.report.digit_count.Statement.{statement}
 use Rattle.day.proofs.report.digit_count.Tie as tie
@@ -21,7 +22,7 @@ loop-holds c = (search needs, refl)
 returns : tie.Need-returns Inv-loop μ-loop
 returns c =
     let l = c .before .before .loop in
-    (sym (digits-stop (l .count) mostDigits (l .rest) (omega arith) (omega arith)) ∙ l .inv .1, omega arith)
+    ((sym (digits-stop (l .count) mostDigits (l .rest) (omega arith) (omega arith)) ∙ l .inv .1, omega arith), decimal-fewest)
 
 loop-again : tie.Need-loop-again Inv-loop μ-loop
 loop-again c =
@@ -31,7 +32,7 @@ loop-again c =
 returns-2 : tie.Need-returns-2 Inv-loop μ-loop
 returns-2 c =
     let l = c .before .loop in
-    (sym (digits-end (l .count) mostDigits (l .rest) (omega arith)) ∙ l .inv .1, omega arith)
+    ((sym (digits-end (l .count) mostDigits (l .rest) (omega arith)) ∙ l .inv .1, omega arith), decimal-fewest)
 
 pub digit-count-spec : {M : Type 1} → statement M
 digit-count-spec =

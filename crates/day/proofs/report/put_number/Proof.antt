@@ -19,7 +19,7 @@ returns c =
     let p = f .before .before .before .before in
     let k = p .before .before in
     let a = k .before .before .args in
-    let shown : digits (k .digit-count .result) (a .n) ≡ decimal (a .n) = ap (λ (j : ℕ). digits j (a .n)) (k .digit-count .ensures .0) in (
+    let shown : digits (k .digit-count .result) (a .n) ≡ decimal (a .n) = ap (λ (j : ℕ). digits j (a .n)) (k .digit-count .ensures .0 .0) in (
       subst (λ (ys : List ℕ). Put (now (a .out)) (a .at) (ys ++ (a .end ∷ [])) (f .fill-at .last .0) (a .at + k .digit-count .result + 1)) shown
           (put-end (now (a .out)) _ (a .at) _ (a .end) (length-digits _ (a .n)) (omega arith) (p .digits-at .ensures) (f .fill-at .ensures)),
       omega arith,
