@@ -1,15 +1,14 @@
 -- Laws of specs/Frame.antt. Assumes nothing.
 use Prim.Native.Nat.{ℕ, _+_, _<_, _≤_}
-use mathlib.Core.Bool.{true, false}
-use mathlib.Core.Path.{_≡_, refl, sym, ap, _∙_}
+use mathlib.Core.Bool.{true}
+use mathlib.Core.Path.{_≡_, sym, ap, _∙_}
 use mathlib.Core.List.{List, [], _∷_, _++_}
 use native.Mathlib.Numerals.{add-one}
 use native.Mathlib.Omega.{arith}
 use borrow.Author.Tests.{lt-ltb, le-ltb, le-leb, lt-leb, leb-true}
-use lib.ListN.{length, take, drop, getD, set, length-append, length-drop}
+use lib.ListN.{length, drop, getD, set, length-append, length-drop}
 use lib.Seq.{take-suc, set-split, getD-drop, take-append-le}
-use lib.Dec.{ltb, leb}
-use Rattle.octets.specs.Choice.{choose, both}
+use lib.Dec.{leb}
 use Rattle.octets.specs.Part.{part, splice}
 use Rattle.octets.specs.Number.{fromLe}
 use Rattle.octets.proofs.ChoiceLaws.{both-first, both-second}

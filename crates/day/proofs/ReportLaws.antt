@@ -1,20 +1,15 @@
 -- Laws of specs/Report.antt. Assumes nothing.
-use Prim.Native.Nat.{ℕ, zero, suc, _+_, _-_, _/_, _<_, _≤_}
-use mathlib.Core.Bool.{Bool, true, false}
-use mathlib.Core.Path.{_≡_, refl, sym, ap, _∙_}
+use Prim.Native.Nat.{ℕ, _+_, _-_, _/_, _<_, _≤_}
+use mathlib.Core.Path.{_≡_, sym, ap, _∙_}
 use mathlib.Core.List.{List, [], _∷_, _++_}
-use native.Mathlib.Nat.{add-zero}
 use native.Mathlib.Numerals.{add-one}
 use native.Mathlib.Omega.{arith}
 use borrow.Author.Tests.{lt-ltb, le-ltb}
 use lib.ListN.{length, replicate, length-append}
-use lib.Dec.{ltb}
-use Rattle.octets.specs.Choice.{choose}
 use Rattle.octets.specs.Part.{splice}
-use Rattle.octets.proofs.NumberLaws.{length-digits}
 use Rattle.octets.proofs.PartLaws.{length-splice, splice-splice}
 use Rattle.octets.proofs.WriteLaws.{left-one}
-use Rattle.day.specs.Report.{mostDigits, digitsFrom, digitCount, decimal, Put}
+use Rattle.day.specs.Report.{digitsFrom, Put}
 
 -- ---- the number of digits, for a loop that counts up to n
 
@@ -32,19 +27,6 @@ module _ (k n v : ℕ) where
   digits-end h =
       let none : n - k ≡ 0 = omega arith in
       rw none
-
-most-chosen : (b : Bool) (x y n : ℕ) → x ≤ n → y ≤ n → choose b x y ≤ n
-most-chosen true x y n h l = h
-most-chosen false x y n h l = l
-
-most-digits : (d k v : ℕ) → digitsFrom d k v ≤ k + d
-unfolding digitsFrom
-most-digits zero k v = omega arith
-most-digits (suc d) k v = most-chosen (ltb v 10) k (digitsFrom d (suc k) (v / 10)) (k + suc d) (omega arith) (omega (arith, most-digits d (suc k) (v / 10)))
-
-pub length-decimal : (n : ℕ) → length (decimal n) ≤ mostDigits
-unfolding decimal digitCount
-length-decimal n = omega (arith, length-digits (digitCount n) n, most-digits (mostDigits - 1) 1 n)
 
 -- ---- a write behind another is one write
 

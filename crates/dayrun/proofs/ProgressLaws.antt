@@ -5,7 +5,6 @@ use mathlib.Core.Path.{_≡_, refl, sym, ap, _∙_, subst}
 use mathlib.Core.List.{List}
 use native.Mathlib.Nat.{add-zero}
 use native.Mathlib.Omega.{arith}
-use lib.ListN.{length}
 use Rattle.submission.specs.Submission.{Submitted}
 use Rattle.repository.specs.declared.answer.Answer.{Answer}
 use Rattle.repository.specs.Answers.{submissionAnswer}

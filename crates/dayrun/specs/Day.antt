@@ -1,6 +1,5 @@
 -- Document 01, 'The day run': the whole output for a day's input.
 use Prim.Native.Nat.{ℕ, zero, suc, _+_, _*_}
-use mathlib.Core.Bool.{Bool, true, not}
 use mathlib.Core.List.{List, [], _++_}
 use lib.ListN.{length, drop, replicate}
 use lib.Dec.{eqb, ltb}

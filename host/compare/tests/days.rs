@@ -2,7 +2,7 @@
 //! the checker's report, from a file and from a pipe in odd pieces.
 
 use checker::day::report;
-use compare::dayrun::{check, from_file, from_pieces};
+use compare::dayrun::{check, check_lines, from_file, from_pieces};
 use compare::days::{self, framed, new_swap, of_length, overlong, random_day, wild_day};
 use compare::message::Message;
 use compare::random::Random;
@@ -10,6 +10,8 @@ use compare::sound::{plain_new, plain_short};
 use compare::submissions;
 use compare::tally::Tally;
 use sdr::Answer;
+use std::fs;
+use std::path::Path;
 
 /// A report: the heading and these lines.
 fn lines(lines: &[&str]) -> Vec<u8> {
@@ -148,6 +150,30 @@ fn the_401st_swap_finds_no_row() {
     ));
     let end = format!("{due}402 0 0 401\nend 402 401\n");
     check_file(&day, end.as_bytes(), "401 swaps and a MODI");
+}
+
+/// The stored days, seen from this package, and the one that is the program's
+/// own input.
+const STORED: &str = "../../days";
+const OWN: [&str; 2] = ["../../crates/dayrun/stdin", "../../crates/dayrun/stdout"];
+
+#[test]
+fn the_stored_days() {
+    let here = Path::new(env!("CARGO_MANIFEST_DIR"));
+    let mut days = vec![OWN.map(|file| here.join(file))];
+    for entry in fs::read_dir(here.join(STORED)).expect("the stored days") {
+        let path = entry.expect("a file").path();
+        if path.extension().is_some_and(|kind| kind == "day") {
+            days.push([path.clone(), path.with_extension("report")]);
+        }
+    }
+    assert!(days.len() > 8, "{} stored days", days.len());
+    for [day, due] in days {
+        let what = day.display().to_string();
+        let day = fs::read(day).expect("the day's bytes");
+        let due = fs::read(due).expect("the day's report");
+        check_lines(&day, &report(&day), &due, &what);
+    }
 }
 
 /// Counts what a report says, without its first and last line.

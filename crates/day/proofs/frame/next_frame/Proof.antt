@@ -1,8 +1,7 @@
 -- `day::frame::next_frame` meets its contract. Assumes nothing.
-use mathlib.Core.Path.{_≡_, sym, ap, _∙_}
+use mathlib.Core.Path.{sym, ap, _∙_}
 use native.Mathlib.Omega.{arith}
 use borrow.Author.Needs.{needs}
-use denote.Ref.{now}
 use Rattle.day.specs.declared.frame.Frame.the-variants.{Message, Overlong}
 use Rattle.day.proofs.FrameLaws.{no-length, not-whole, too-long, a-message}
 use Rattle.day.proofs.frame.next_frame.Statement.{statement}

@@ -1,5 +1,5 @@
 -- `day::report::digit_count` meets its contract. The invariant: the count from here on is the count. Assumes nothing.
-use Prim.Native.Nat.{_-_, _<_, _≤_}
+use Prim.Native.Nat.{_-_, _≤_}
 use mathlib.Core.Path.{_≡_, refl, sym, _∙_}
 use native.Mathlib.Omega.{arith}
 use borrow.Author.Needs.{needs}

@@ -1,12 +1,7 @@
 -- `day::report::put_word` meets its contract. Assumes nothing.
-use mathlib.Core.Path.{subst, sym}
-use mathlib.Core.Bool.{Bool}
-use mathlib.Core.List.{[], _∷_, _++_}
 use native.Mathlib.Omega.{arith}
 use borrow.Author.Needs.{needs}
-use denote.Ref.{now}
 use Rattle.octets.specs.Text.{text}
-use Rattle.day.specs.Report.{lastWord, space, Put}
 use Rattle.day.proofs.report.put_word.Statement.{statement}
 use Rattle.day.proofs.report.put_word.Tie as tie
 

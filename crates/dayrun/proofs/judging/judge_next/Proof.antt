@@ -1,6 +1,6 @@
 -- `dayrun::judging::judge_next` meets its contract. Assumes nothing.
 use Prim.Native.Nat.{ℕ, _+_, _-_, _≤_, _<_}
-use mathlib.Core.Path.{_≡_, refl, sym, ap, _∙_, subst}
+use mathlib.Core.Path.{_≡_, sym, ap, _∙_, subst}
 use mathlib.Core.List.{List}
 use native.Mathlib.Omega.{arith}
 use borrow.Author.Needs.{needs}
@@ -13,9 +13,8 @@ use Rattle.submission.specs.Opening.{documentLimits}
 use Rattle.submission.specs.Submission.{Submitted, submitted, refused}
 use Rattle.rules.specs.Verdicts.{layoutWrong}
 use Rattle.repository.specs.Answers.{submissionAnswer}
-use Rattle.day.specs.declared.frame.Frame.the-variants.{Message, Overlong, Partial}
+use Rattle.day.specs.declared.frame.Frame.the-variants.{Partial}
 use Rattle.day.specs.Frame.{lengthSize, frameOf, longestFrame, Fits}
-use Rattle.dayrun.specs.declared.judging.Progress.{Progress}
 use Rattle.dayrun.specs.Day.{Step, answered, stepOn, step}
 use Rattle.dayrun.specs.Progress.{dayOf, progressAfter}
 use Rattle.dayrun.proofs.DayLaws.{step-message, step-overlong, step-partial, judged-at-once}
