@@ -1,7 +1,7 @@
 -- Laws of specs/Day.antt. Assumes nothing.
-use Prim.Native.Nat.{ℕ, _+_, _≤_}
+use Prim.Native.Nat.{ℕ, zero, suc, _+_, _<_, _≤_}
 use mathlib.Core.Bool.{true, false}
-use mathlib.Core.Path.{_≡_, sym, ap, _∙_}
+use mathlib.Core.Path.{_≡_, refl, sym, ap, _∙_}
 use mathlib.Core.List.{List, _++_}
 use native.Mathlib.Decide.{decLt}
 use native.Mathlib.Omega.{arith}
@@ -13,10 +13,11 @@ use Rattle.octets.specs.Part.{part}
 use Rattle.rules.specs.Verdicts.{layoutWrong}
 use Rattle.submission.specs.Opening.{documentLimits}
 use Rattle.submission.specs.Submission.{submitted, refused}
+use Rattle.day.specs.declared.frame.Frame.{Frame}
 use Rattle.day.specs.declared.frame.Frame.the-variants.{Message, Overlong, Partial}
 use Rattle.day.specs.Frame.{lengthSize, lengthOf, isWhole, frameOf}
 use Rattle.day.proofs.FrameLaws.{whole-length, frame-more, too-long, a-message}
-use Rattle.dayrun.specs.Day.{Day, Step, answered, stepOn, step, reportFrom}
+use Rattle.dayrun.specs.Day.{Day, Step, answered, stepOn, step, afterMessages, restAfter, reportFrom}
 use Rattle.dayrun.specs.Blocks.{Judged-at-once}
 
 -- ---- a step, by what stands at the front
@@ -33,6 +34,37 @@ module _ (d : Day) (xs : List ℕ) where
   pub step-partial : frameOf (documentLimits .longest) xs ≡ Partial → step d xs ≡ stepOn d xs Partial
   unfolding step
   step-partial e = ap (stepOn d xs) e
+
+-- a step that takes nothing changes nothing, any other counts one message
+none-taken : (d : Day) (xs : List ℕ) (f : Frame) → stepOn d xs f .taken ≡ 0 → stepOn d xs f .after ≡ d
+none-taken d xs (Message n) e = absurd (omega (arith, e))
+none-taken d xs (Overlong n) e = absurd (omega (arith, e))
+none-taken d xs Partial e = refl
+
+some-taken : (d : Day) (xs : List ℕ) (f : Frame) → 0 < stepOn d xs f .taken → stepOn d xs f .after .judged ≡ d .judged + 1
+some-taken d xs (Message n) h = refl
+some-taken d xs (Overlong n) h = refl
+some-taken d xs Partial h = absurd (omega (arith, h))
+
+pub step-none : (d : Day) (xs : List ℕ) → step d xs .taken ≡ 0 → step d xs .after ≡ d
+unfolding step
+step-none d xs e = none-taken d xs (frameOf (documentLimits .longest) xs) e
+
+pub step-one : (d : Day) (xs : List ℕ) → 0 < step d xs .taken → step d xs .after .judged ≡ d .judged + 1
+unfolding step
+step-one d xs h = some-taken d xs (frameOf (documentLimits .longest) xs) h
+
+-- ---- after one message more
+
+pub after-more : (k : ℕ) (d : Day) (xs : List ℕ) → afterMessages (suc k) d xs ≡ step (afterMessages k d xs) (restAfter k d xs) .after
+unfolding afterMessages restAfter
+after-more zero d xs = refl
+after-more (suc k) d xs = after-more k (step d xs .after) (drop (step d xs .taken) xs)
+
+pub rest-more : (k : ℕ) (d : Day) (xs : List ℕ) → restAfter (suc k) d xs ≡ drop (step (afterMessages k d xs) (restAfter k d xs) .taken) (restAfter k d xs)
+unfolding afterMessages restAfter
+rest-more zero d xs = refl
+rest-more (suc k) d xs = rest-more k (step d xs .after) (drop (step d xs .taken) xs)
 
 -- ---- reading in pieces
 

@@ -1,10 +1,12 @@
 -- Laws of specs/Progress.antt. Assumes nothing.
-use Prim.Native.Nat.{ℕ, _+_, _-_, _<_, _≤_}
+use Prim.Native.Nat.{ℕ, suc, _+_, _-_, _<_, _≤_}
 use mathlib.Core.Bool.{true}
 use mathlib.Core.Path.{_≡_, refl, sym, ap, _∙_, subst}
 use mathlib.Core.List.{List}
 use native.Mathlib.Nat.{add-zero}
 use native.Mathlib.Omega.{arith}
+use lib.ListN.{drop}
+use lib.Seq.{drop-drop}
 use Rattle.submission.specs.Submission.{Submitted}
 use Rattle.repository.specs.declared.answer.Answer.{Answer}
 use Rattle.repository.specs.Answers.{submissionAnswer}
@@ -12,8 +14,9 @@ use Rattle.day.specs.declared.frame.Frame.the-variants.{Partial}
 use Rattle.day.specs.Frame.{lengthSize, longestFrame}
 use Rattle.day.specs.Report.{longestLine, reportLine}
 use Rattle.dayrun.specs.declared.judging.Progress.{Progress}
-use Rattle.dayrun.specs.Day.{mostMessages, answered, stepOn, step}
-use Rattle.dayrun.specs.Progress.{counted, dayOf, progressAfter, atFront, Within, Steps, Leaves}
+use Rattle.dayrun.specs.Day.{Day, Step, mostMessages, answered, stepOn, step, afterMessages, restAfter}
+use Rattle.dayrun.proofs.DayLaws.{step-none, step-one, after-more, rest-more}
+use Rattle.dayrun.specs.Progress.{counted, dayOf, progressAfter, Reached, atFront, Within, Steps, Leaves}
 
 -- ---- what is counted is the step's
 
@@ -68,3 +71,53 @@ pub front-leaves : (n kept : ℕ) (p r : Progress) → r ≡ atFront p → kept 
 front-leaves n kept p r e k leaves o m =
     let h : n - p .at < longestFrame = leaves (ap (λ (x : Progress). x .«is_open») (sym e) ∙ o) (subst (λ (x : Progress). x .judged < mostMessages) e m) in
     omega (arith, h, k)
+
+-- ---- messages judged one after the other
+
+day-same : (d : Day) (l t : List ℕ) (p : Progress) → l ≡ d .ledger → t ≡ d .tape → p .judged ≡ d .judged → p .published ≡ d .published → dayOf l t p ≡ d
+day-same d l t p a b c e =
+    let row : List ℕ → List ℕ → ℕ → ℕ → Day = λ x y j k. record { ledger = x; tape = y; judged = j; published = k } in
+    ap (λ (x : List ℕ). row x t (p .judged) (p .published)) a
+    ∙ ap (λ (y : List ℕ). row (d .ledger) y (p .judged) (p .published)) b
+    ∙ ap (λ (j : ℕ). row (d .ledger) (d .tape) j (p .published)) c
+    ∙ ap (row (d .ledger) (d .tape) (d .judged)) e
+
+pub reached-start : (l t input : List ℕ) (p : Progress) → Reached l t input p l t p
+unfolding afterMessages restAfter
+reached-start l t input p =
+    let none : p .judged - p .judged ≡ 0 = omega arith in
+    record { counted = omega arith; day = rw none; rest = rw none }
+
+module _ (l₀ t₀ input : List ℕ) (p₀ : Progress) (l t l′ t′ : List ℕ) (p r : Progress) (so-far : Reached l₀ t₀ input p₀ l t p) (told : r ≡ progressAfter p (step (dayOf l t p) (drop (p .at) input))) (ledger : l′ ≡ step (dayOf l t p) (drop (p .at) input) .after .ledger) (tape : t′ ≡ step (dayOf l t p) (drop (p .at) input) .after .tape) where
+  moved : r .at ≡ p .at + step (dayOf l t p) (drop (p .at) input) .taken
+  moved = ap (λ (x : Progress). x .at) told
+
+  pub reached-none : r .at ≡ p .at → Reached l₀ t₀ input p₀ l′ t′ r
+  reached-none e =
+      let same : step (dayOf l t p) (drop (p .at) input) .after ≡ dayOf l t p = step-none (dayOf l t p) (drop (p .at) input) (omega (arith, moved, e)) in
+      let count : r .judged ≡ p .judged = ap (λ (x : Progress). x .judged) told ∙ ap (λ (x : Day). x .judged) same in
+      let here : dayOf l′ t′ r ≡ dayOf l t p = day-same _ l′ t′ r ledger tape (ap (λ (x : Progress). x .judged) told) (ap (λ (x : Progress). x .published) told) ∙ same in
+      record {
+        counted = omega (arith, count, so-far .counted);
+        day = here ∙ so-far .day ∙ ap (λ (j : ℕ). afterMessages (j - p₀ .judged) (dayOf l₀ t₀ p₀) (drop (p₀ .at) input)) (sym count);
+        rest = rw (count, e) (so-far .rest);
+      }
+
+  pub reached-more : (w : Progress) → p .at < r .at → w .at ≡ r .at → w .judged ≡ r .judged → w .published ≡ r .published → Reached l₀ t₀ input p₀ l′ t′ w
+  reached-more w h a j u =
+      let k : ℕ = p .judged - p₀ .judged in
+      let d : Day = dayOf l₀ t₀ p₀ in
+      let xs : List ℕ = drop (p₀ .at) input in
+      let s : Step = step (dayOf l t p) (drop (p .at) input) in
+      let s′ : Step = step (afterMessages k d xs) (restAfter k d xs) in
+      let one : s .after .judged ≡ p .judged + 1 = step-one (dayOf l t p) (drop (p .at) input) (omega (arith, moved, h)) in
+      let count : w .judged ≡ s .after .judged = j ∙ ap (λ (x : Progress). x .judged) told in
+      let place : w .judged - p₀ .judged ≡ suc k = omega (arith, count, one, so-far .counted) in
+      let same : s ≡ s′ = ap (λ (x : Day). step x (drop (p .at) input)) (so-far .day) ∙ ap (step (afterMessages k d xs)) (so-far .rest) in
+      let here : dayOf l′ t′ w ≡ s .after = day-same (s .after) l′ t′ w ledger tape count (u ∙ ap (λ (x : Progress). x .published) told) in
+      let left : drop (w .at) input ≡ drop (s .taken) (drop (p .at) input) = ap (λ (i : ℕ). drop i input) (a ∙ moved) ∙ sym (drop-drop (s .taken) (p .at) input) in
+      record {
+        counted = omega (arith, count, one, so-far .counted);
+        day = rw place (here ∙ ap (λ (x : Step). x .after) same ∙ sym (after-more k d xs));
+        rest = rw place (left ∙ ap (λ (x : Step). drop (x .taken) (drop (p .at) input)) same ∙ ap (drop (s′ .taken)) (so-far .rest) ∙ sym (rest-more k d xs));
+      }

@@ -64,6 +64,15 @@ stepOn d xs Partial = record { taken = 0; line = []; after = d }
 unfoldable pub step : Day → List ℕ → Step
 step d xs = stepOn d xs (frameOf (documentLimits .longest) xs)
 
+-- the day after k messages of the input, and what is left of the input then
+unfoldable pub afterMessages : ℕ → Day → List ℕ → Day
+afterMessages zero d xs = d
+afterMessages (suc k) d xs = afterMessages k (step d xs .after) (drop (step d xs .taken) xs)
+
+unfoldable pub restAfter : ℕ → Day → List ℕ → List ℕ
+restAfter zero d xs = xs
+restAfter (suc k) d xs = restAfter k (step d xs .after) (drop (step d xs .taken) xs)
+
 -- the lines of the messages from here on, k at most, and the last line: "cut" where bytes are left over
 unfoldable pub reportFrom : ℕ → Day → List ℕ → List ℕ
 reportFrom zero d xs = lastLine (ltb 0 (length xs)) (d .judged) (d .published)

@@ -3,11 +3,11 @@ use Prim.Native.Nat.{ℕ, _+_, _-_, _<_, _≤_}
 use mathlib.Core.Bool.{true}
 use mathlib.Core.Path.{_≡_}
 use mathlib.Core.List.{List}
-use lib.ListN.{length}
+use lib.ListN.{length, drop}
 use Rattle.dayrun.specs.declared.judging.Progress.{Progress}
 use Rattle.day.specs.Frame.{longestFrame}
 use Rattle.day.specs.Report.{longestLine}
-use Rattle.dayrun.specs.Day.{Day, Step, mostMessages, linesOf}
+use Rattle.dayrun.specs.Day.{Day, Step, mostMessages, linesOf, afterMessages, restAfter}
 
 -- after a message that takes so many bytes of the input and has such a line and identifier
 abbrev pub counted : Progress → ℕ → List ℕ → ℕ → Progress
@@ -21,6 +21,12 @@ dayOf l t p = record { ledger = l; tape = t; judged = p .judged; published = p .
 abbrev pub progressAfter : Progress → Step → Progress
 progressAfter p s =
     record { at = p .at + s .taken; used = p .used + length (s .line); judged = s .after .judged; published = s .after .published; «is_open» = p .«is_open» }
+
+-- from p₀ to p the messages of the input were judged, one after the other: so many as were counted, and none was left out
+pub record Reached (l₀ t₀ input : List ℕ) (p₀ : Progress) (l t : List ℕ) (p : Progress) : Type 0 where
+  pub counted : p₀ .judged ≤ p .judged
+  pub day : dayOf l t p ≡ afterMessages (p .judged - p₀ .judged) (dayOf l₀ t₀ p₀) (drop (p₀ .at) input)
+  pub rest : drop (p .at) input ≡ restAfter (p .judged - p₀ .judged) (dayOf l₀ t₀ p₀) (drop (p₀ .at) input)
 
 -- what is left of the input stands at the front
 abbrev pub atFront : Progress → Progress

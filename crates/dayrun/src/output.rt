@@ -15,7 +15,7 @@ pub const OUTPUT_SIZE: usize = WRITE_SIZE + LONGEST_LINE;
 // Writes out what waits.
 pub fn write_out(out: &[u8], p: Progress) -> Progress
     ensures { λ r. ⌜ ((n most : ℕ) → Within n most p → Within n writeSize r) ⌝ }
-    ensures { λ r. ⌜ (r .at ≡ p .at) × (r .judged ≡ p .judged) ⌝ }
+    ensures { λ r. ⌜ (r .at ≡ p .at) × (r .judged ≡ p .judged) × (r .published ≡ p .published) ⌝ }
 {
     let waiting = part_of(out, 0, p.used);
     let is_written = io::write_all(STDOUT_FILENO, waiting);
@@ -31,7 +31,7 @@ pub fn write_out(out: &[u8], p: Progress) -> Progress
 // Writes out what waits where there is enough of it.
 pub fn write_enough(out: &[u8], p: Progress) -> Progress
     ensures { λ r. ⌜ ((n most : ℕ) → Within n most p → Within n writeSize r) ⌝ }
-    ensures { λ r. ⌜ (r .at ≡ p .at) × (r .judged ≡ p .judged) ⌝ }
+    ensures { λ r. ⌜ (r .at ≡ p .at) × (r .judged ≡ p .judged) × (r .published ≡ p .published) ⌝ }
 {
     if WRITE_SIZE <= p.used {
         return write_out(out, p);

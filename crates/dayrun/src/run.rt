@@ -4,7 +4,7 @@ ghost use mathlib.Core.Path.{_≡_};
 ghost use lib.ListN.{length};
 ghost use Rattle.day.specs.Frame.{longestFrame};
 ghost use Rattle.day.specs.Report.{heading, longestLine, Put};
-ghost use Rattle.dayrun.specs.Progress.{writeSize, blockSize, Within, Leaves, atFront};
+ghost use Rattle.dayrun.specs.Progress.{writeSize, blockSize, Reached, Within, Leaves, atFront};
 use crate::input::can_wait;
 use crate::input::keep_rest;
 use crate::input::read_block;
@@ -57,6 +57,7 @@ fn judge_block(
 ) -> Progress
     requires { ⌜ Within (length (now input)) writeSize start ⌝ }
     requires { ⌜ writeSize + longestLine ≤ length (now out) ⌝ }
+    ensures { λ r. ⌜ Reached (now (ledger .entry)) (now (tape .entry)) (now (input .entry)) start (now (ledger .exit)) (now (tape .exit)) r ⌝ }
     ensures { λ r. ⌜ Within (length (now (input .entry))) writeSize r ⌝ }
     ensures { λ r. ⌜ Leaves (length (now (input .entry))) r ⌝ }
 {
@@ -88,7 +89,7 @@ fn from_front(p: Progress) -> Progress
 // Writes out what waits where the next read can wait.
 fn before_read(out: &[u8], waits: bool, p: Progress) -> Progress
     ensures { λ r. ⌜ ((n : ℕ) → Within n writeSize p → Within n writeSize r) ⌝ }
-    ensures { λ r. ⌜ (r .at ≡ p .at) × (r .judged ≡ p .judged) ⌝ }
+    ensures { λ r. ⌜ (r .at ≡ p .at) × (r .judged ≡ p .judged) × (r .published ≡ p .published) ⌝ }
 {
     if waits {
         return write_out(out, p);

@@ -61,7 +61,7 @@ judge-block-requires c κs = (from-start _ writeSize _ (waiting (c .before .befo
 keep-rest-requires : tie.Need-keep-rest-requires Inv-loop μ-loop
 keep-rest-requires c κs =
     let j = c .before .before .before .before .before .before .before in
-    (omega (arith, j .judge-block .ensures .0 .passed, size (j .before .before)), omega (arith, c .before .before .before .before .before .before .before .before .before .before .before .before .before .before .before .before .read-block .ensures .0))
+    (omega (arith, j .judge-block .ensures .1 .0 .passed, size (j .before .before)), omega (arith, c .before .before .before .before .before .before .before .before .before .before .before .before .before .before .before .before .read-block .ensures .0))
 
 sub-reads : tie.Need-sub-reads Inv-loop μ-loop
 sub-reads c = omega (arith, c .before .before .before .before .before .before .before .before .before .before .before .before .before .before .before .before .before .before .before .before .before .before .before .before .before .before .before .loop-test .taken)
@@ -83,8 +83,8 @@ loop-again c =
       omega (arith, l .3, said),
       omega (arith, l .4, came, moved),
       omega (arith, l .5, said),
-      front-within _ writeSize _ _ (c .from-front .ensures) (j .judge-block .ensures .0),
-      front-leaves _ _ _ _ (c .from-front .ensures) (omega (arith, k .keep-rest .ensures .1, size (j .before .before))) (j .judge-block .ensures .1),
+      front-within _ writeSize _ _ (c .from-front .ensures) (j .judge-block .ensures .1 .0),
+      front-leaves _ _ _ _ (c .from-front .ensures) (omega (arith, k .keep-rest .ensures .1, size (j .before .before))) (j .judge-block .ensures .1 .1),
     )
 
 finish-requires-2 : tie.Need-finish-requires-2 Inv-loop μ-loop
