@@ -1,6 +1,6 @@
 -- Laws of specs/Day.antt. Assumes nothing.
 use Prim.Native.Nat.{ℕ, zero, suc, _+_, _<_, _≤_}
-use mathlib.Core.Bool.{true, false}
+use mathlib.Core.Bool.{Bool, true, false}
 use mathlib.Core.Path.{_≡_, refl, sym, ap, _∙_}
 use mathlib.Core.List.{List, _++_}
 use native.Mathlib.Decide.{decLt}
@@ -97,6 +97,14 @@ step-takes d xs e =
       | yes long ↦ ap (λ (s : Step). s .taken) (step-overlong d xs (lengthOf xs) (too-long (documentLimits .longest) xs (h .0) (h .1) long))
       | no short ↦ ap (λ (s : Step). s .taken) (step-message d xs (lengthOf xs) (a-message (documentLimits .longest) xs (h .0) (h .1) (omega (arith, short))))
     ]
+
+-- where a step takes nothing no message is whole
+pub not-whole-left : (d : Day) (xs : List ℕ) → step d xs .taken ≡ 0 → isWhole xs ≡ false
+not-whole-left d xs z = not-true (isWhole xs) (λ e. absurd (omega (arith, z, step-takes d xs e)))
+  where
+    not-true : (b : Bool) → (b ≡ true → ⊥) → b ≡ false
+    not-true true f = absurd (f refl)
+    not-true false f = refl
 
 pub judged-at-once : Judged-at-once
 unfolding reportFrom

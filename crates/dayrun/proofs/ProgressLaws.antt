@@ -1,21 +1,21 @@
 -- Laws of specs/Progress.antt. Assumes nothing.
 use Prim.Native.Nat.{ℕ, suc, _+_, _-_, _<_, _≤_}
-use mathlib.Core.Bool.{true}
+use mathlib.Core.Bool.{true, false}
 use mathlib.Core.Path.{_≡_, refl, sym, ap, _∙_, subst}
 use mathlib.Core.List.{List}
 use native.Mathlib.Nat.{add-zero}
 use native.Mathlib.Omega.{arith}
-use lib.ListN.{drop}
+use lib.ListN.{length, drop}
 use lib.Seq.{drop-drop}
 use Rattle.submission.specs.Submission.{Submitted}
 use Rattle.repository.specs.declared.answer.Answer.{Answer}
 use Rattle.repository.specs.Answers.{submissionAnswer}
 use Rattle.day.specs.declared.frame.Frame.the-variants.{Partial}
-use Rattle.day.specs.Frame.{lengthSize, longestFrame}
+use Rattle.day.specs.Frame.{lengthSize, longestFrame, isWhole}
 use Rattle.day.specs.Report.{longestLine, reportLine}
 use Rattle.dayrun.specs.declared.judging.Progress.{Progress}
 use Rattle.dayrun.specs.Day.{Day, Step, mostMessages, answered, stepOn, step, afterMessages, restAfter}
-use Rattle.dayrun.proofs.DayLaws.{step-none, step-one, after-more, rest-more}
+use Rattle.dayrun.proofs.DayLaws.{step-none, step-one, after-more, rest-more, not-whole-left}
 use Rattle.dayrun.specs.Progress.{counted, dayOf, progressAfter, Reached, atFront, Within, Steps, Leaves}
 
 -- ---- what is counted is the step's
@@ -67,9 +67,9 @@ pub front-within : (n most : ℕ) (p r : Progress) → r ≡ atFront p → Withi
 front-within n most p r e w =
     subst (Within 0 most) (sym e) (record { passed = omega arith; waiting = w .waiting; lines = w .lines; messages = w .messages })
 
-pub front-leaves : (n kept : ℕ) (p r : Progress) → r ≡ atFront p → kept ≡ n - p .at → Leaves n p → r .«is_open» ≡ true → r .judged < mostMessages → kept < longestFrame
-front-leaves n kept p r e k leaves o m =
-    let h : n - p .at < longestFrame = leaves (ap (λ (x : Progress). x .«is_open») (sym e) ∙ o) (subst (λ (x : Progress). x .judged < mostMessages) e m) in
+pub front-leaves : (input : List ℕ) (kept : ℕ) (p r : Progress) → r ≡ atFront p → kept ≡ length input - p .at → Leaves input p → r .«is_open» ≡ true → r .judged < mostMessages → kept < longestFrame
+front-leaves input kept p r e k leaves o m =
+    let h : length input - p .at < longestFrame = leaves (ap (λ (x : Progress). x .«is_open») (sym e) ∙ o) (subst (λ (x : Progress). x .judged < mostMessages) e m) .1 in
     omega (arith, h, k)
 
 -- ---- messages judged one after the other
@@ -91,6 +91,10 @@ reached-start l t input p =
 module _ (l₀ t₀ input : List ℕ) (p₀ : Progress) (l t l′ t′ : List ℕ) (p r : Progress) (so-far : Reached l₀ t₀ input p₀ l t p) (told : r ≡ progressAfter p (step (dayOf l t p) (drop (p .at) input))) (ledger : l′ ≡ step (dayOf l t p) (drop (p .at) input) .after .ledger) (tape : t′ ≡ step (dayOf l t p) (drop (p .at) input) .after .tape) where
   moved : r .at ≡ p .at + step (dayOf l t p) (drop (p .at) input) .taken
   moved = ap (λ (x : Progress). x .at) told
+
+  -- no message was whole
+  pub none-left : r .at ≡ p .at → isWhole (drop (r .at) input) ≡ false
+  none-left e = rw e (not-whole-left (dayOf l t p) (drop (p .at) input) (omega (arith, moved, e)))
 
   pub reached-none : r .at ≡ p .at → Reached l₀ t₀ input p₀ l′ t′ r
   reached-none e =

@@ -91,6 +91,6 @@ newDay =
       published = 0;
     }
 
--- the whole output: no message takes less than a byte, so there are fewer messages than bytes
+-- the whole output; a message takes two bytes at least, so there are fewer messages than bytes
 unfoldable pub dayReport : List ℕ → List ℕ
 dayReport xs = heading ++ reportFrom (length xs) newDay xs

@@ -1,11 +1,11 @@
 -- How the code counts a day's progress.
 use Prim.Native.Nat.{ℕ, _+_, _-_, _<_, _≤_}
-use mathlib.Core.Bool.{true}
+use mathlib.Core.Bool.{true, false}
 use mathlib.Core.Path.{_≡_}
 use mathlib.Core.List.{List}
 use lib.ListN.{length, drop}
 use Rattle.dayrun.specs.declared.judging.Progress.{Progress}
-use Rattle.day.specs.Frame.{longestFrame}
+use Rattle.day.specs.Frame.{longestFrame, isWhole}
 use Rattle.day.specs.Report.{longestLine}
 use Rattle.dayrun.specs.Day.{Day, Step, mostMessages, linesOf, afterMessages, restAfter}
 
@@ -56,6 +56,7 @@ pub record Steps (n : ℕ) (p r : Progress) : Type 0 where
   pub counts : p .at < r .at → p .judged < r .judged
   pub stays : r .at ≡ p .at → (n - p .at < longestFrame) × (r .used ≡ p .used)
 
--- the input of n bytes goes on: the next message is not whole, and shorter than the longest
-abbrev pub Leaves : ℕ → Progress → Type 0
-Leaves n p = p .«is_open» ≡ true → p .judged < mostMessages → n - p .at < longestFrame
+-- no message that is whole is left of the input, and less than the longest message
+abbrev pub Leaves : List ℕ → Progress → Type 0
+Leaves input p =
+    p .«is_open» ≡ true → p .judged < mostMessages → (isWhole (drop (p .at) input) ≡ false) × (length input - p .at < longestFrame)

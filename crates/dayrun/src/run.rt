@@ -59,7 +59,7 @@ fn judge_block(
     requires { ⌜ writeSize + longestLine ≤ length (now out) ⌝ }
     ensures { λ r. ⌜ Reached (now (ledger .entry)) (now (tape .entry)) (now (input .entry)) start (now (ledger .exit)) (now (tape .exit)) r ⌝ }
     ensures { λ r. ⌜ Within (length (now (input .entry))) writeSize r ⌝ }
-    ensures { λ r. ⌜ Leaves (length (now (input .entry))) r ⌝ }
+    ensures { λ r. ⌜ Leaves (now (input .entry)) r ⌝ }
 {
     let mut p = start;
     while p.is_open && p.judged < MOST_MESSAGES {

@@ -8,7 +8,7 @@ use borrow.Author.Needs.{needs}
 use borrow.Author.Tests.{ltb-false}
 use Rattle.dayrun.specs.Day.{mostMessages}
 use Rattle.dayrun.specs.Progress.{writeSize, Reached, Within}
-use Rattle.dayrun.proofs.ProgressLaws.{reached-start, reached-none, reached-more}
+use Rattle.dayrun.proofs.ProgressLaws.{reached-start, none-left, reached-none, reached-more}
 use Rattle.dayrun.proofs.run.judge_block.Statement.{statement}
 use Rattle.dayrun.proofs.run.judge_block.Tie as tie
 
@@ -37,7 +37,7 @@ returns c =
       reached-none _ _ _ _ _ _ _ _ (l .p) _ (l .inv .4) (told .0) (told .1 .1 .0) (told .1 .1 .1 .0) (c .if2 .taken),
       (
         record { passed = s .within .passed; waiting = omega (arith, stays .1, l .inv .3 .waiting); lines = s .within .lines; messages = s .within .messages },
-        λ _ _. omega (arith, stays .0, c .if2 .taken),
+        λ _ _. (none-left _ _ _ _ _ _ _ _ (l .p) _ (l .inv .4) (told .0) (told .1 .1 .0) (told .1 .1 .1 .0) (c .if2 .taken), omega (arith, stays .0, c .if2 .taken)),
       ),
     )
 
