@@ -1,3 +1,3 @@
 pub mod DayLaws
-pub mod Example
+pub mod Examples
 pub mod ProgressLaws

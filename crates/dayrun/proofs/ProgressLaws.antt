@@ -12,11 +12,12 @@ use Rattle.repository.specs.declared.answer.Answer.{Answer}
 use Rattle.repository.specs.Answers.{submissionAnswer}
 use Rattle.day.specs.declared.frame.Frame.the-variants.{Partial}
 use Rattle.day.specs.Frame.{lengthSize, longestFrame, isWhole}
-use Rattle.day.specs.Report.{longestLine, reportLine}
+use Rattle.octets.specs.Text.{text}
+use Rattle.day.specs.Report.{line, heading, longestLine, reportLine}
 use Rattle.dayrun.specs.declared.judging.Progress.{Progress}
 use Rattle.dayrun.specs.Day.{Day, Step, mostMessages, answered, stepOn, step, afterMessages, restAfter}
 use Rattle.dayrun.proofs.DayLaws.{step-none, step-one, after-more, rest-more, not-whole-left}
-use Rattle.dayrun.specs.Progress.{counted, dayOf, progressAfter, Reached, atFront, Within, Steps, Leaves}
+use Rattle.dayrun.specs.Progress.{counted, dayOf, progressAfter, Reached, atStart, atFront, writeSize, Within, Steps, Leaves}
 
 -- ---- what is counted is the step's
 
@@ -58,6 +59,10 @@ no-further n p h l m k =
     }
 
 -- ---- from one block to the next
+
+pub start-within : (p : Progress) → p ≡ atStart → Within 0 writeSize p
+unfolding text line heading
+start-within p e = subst (Within 0 writeSize) (sym e) (record { passed = omega arith; waiting = omega arith; lines = omega arith; messages = omega arith })
 
 pub from-start : (n most : ℕ) (p : Progress) → Within 0 most p → Within n most p
 from-start n most p w =

@@ -4,6 +4,7 @@ use mathlib.Core.Bool.{true}
 use mathlib.Core.Path.{_≡_}
 use mathlib.Core.List.{List, [], _∷_, _++_}
 use lib.ListN.{drop}
+use Prim.Native.String.{String}
 use Rattle.octets.specs.Text.{text}
 use Rattle.day.specs.Frame.{isWhole}
 use Rattle.dayrun.specs.Day.{Day, step, reportFrom, dayReport}
@@ -15,7 +16,15 @@ Judged-at-once =
     → isWhole xs ≡ true
     → reportFrom (suc k) d (xs ++ ys) ≡ step d xs .line ++ reportFrom k (step d xs .after) (drop (step d xs .taken) xs ++ ys)
 
--- for the bytes 02 00 00 00 the whole output
-abbrev pub Documents-example : Type 0
-Documents-example =
-    dayReport (2 ∷ 0 ∷ 0 ∷ 0 ∷ []) ≡ text "message verdict element record\n1 6 2 0\nend 1 0\n"
+-- the whole output for a few inputs
+abbrev pub Example : List ℕ → String → Type 0
+Example xs lines = dayReport xs ≡ text "message verdict element record\n" ++ text lines
+
+-- for the bytes 02 00 00 00 it is document 01's; no input; a lone byte; a length without its message; a length of 0
+abbrev pub Examples : Type 0
+Examples =
+    Example (2 ∷ 0 ∷ 0 ∷ 0 ∷ []) "1 6 2 0\nend 1 0\n"
+    × Example [] "end 0 0\n"
+    × Example (2 ∷ []) "cut 0 0\n"
+    × Example (1 ∷ 0 ∷ []) "cut 0 0\n"
+    × Example (0 ∷ 0 ∷ []) "1 5 0 0\nend 1 0\n"

@@ -6,7 +6,7 @@ use mathlib.Core.List.{List}
 use lib.ListN.{length, drop}
 use Rattle.dayrun.specs.declared.judging.Progress.{Progress}
 use Rattle.day.specs.Frame.{longestFrame, isWhole}
-use Rattle.day.specs.Report.{longestLine}
+use Rattle.day.specs.Report.{heading, longestLine}
 use Rattle.dayrun.specs.Day.{Day, Step, mostMessages, linesOf, afterMessages, restAfter}
 
 -- after a message that takes so many bytes of the input and has such a line and identifier
@@ -27,6 +27,10 @@ pub record Reached (l₀ t₀ input : List ℕ) (p₀ : Progress) (l t : List �
   pub counted : p₀ .judged ≤ p .judged
   pub day : dayOf l t p ≡ afterMessages (p .judged - p₀ .judged) (dayOf l₀ t₀ p₀) (drop (p₀ .at) input)
   pub rest : drop (p .at) input ≡ restAfter (p .judged - p₀ .judged) (dayOf l₀ t₀ p₀) (drop (p₀ .at) input)
+
+-- before the first message: the first line waits
+abbrev pub atStart : Progress
+atStart = record { at = 0; used = length heading; judged = 0; published = 0; «is_open» = true }
 
 -- what is left of the input stands at the front
 abbrev pub atFront : Progress → Progress

@@ -1,7 +1,7 @@
 // The input comes in blocks. What is left of a block, a message that is not whole yet, is kept for the next.
 ghost use Prim.Native.Nat.{_+_, _-_, _^_, _<_, _≤_};
 ghost use mathlib.Core.Path.{_≡_};
-ghost use lib.ListN.{length};
+ghost use lib.ListN.{length, take};
 ghost use Rattle.octets.specs.Part.{part, splice};
 ghost use Rattle.dayrun.specs.Progress.{blockSize};
 use day::LONGEST_FRAME;
@@ -14,10 +14,11 @@ const BLOCK_SIZE: usize = 65_536;
 
 pub const INPUT_SIZE: usize = LONGEST_FRAME + BLOCK_SIZE;
 
-// Reads once, behind the bytes that are kept, and answers how many bytes came; none at the end of the input, or where
+// Reads once, behind the bytes that are kept and stay, and answers how many bytes came; none at the end of the input, or where
 // reading fails.
 pub fn read_block(input: &mut [u8], kept: usize) -> usize
     requires { ⌜ kept + blockSize ≤ length (now input) ⌝ }
+    ensures { λ _. ⌜ take kept (now (input .exit)) ≡ take kept (now (input .entry)) ⌝ }
     ensures { λ r. ⌜ kept + r ≤ length (now (input .exit)) ⌝ }
     ensures { λ r. ⌜ kept + r < 2 ^ 64 ⌝ }
 {

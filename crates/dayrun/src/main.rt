@@ -5,7 +5,7 @@ mod output;
 mod run;
 
 ghost use mathlib.Core.Path.{_≡_};
-ghost use Rattle.dayrun.specs.Blocks.{Documents-example};
+ghost use Rattle.dayrun.specs.Blocks.{Examples};
 ghost use Rattle.dayrun.specs.Day.{newDay};
 use input::INPUT_SIZE;
 use ledger::Caps;
@@ -25,7 +25,7 @@ const LEDGER_SIZE: usize = HEADER_SIZE + ROWS * ROW_SIZE;
 // The ledger before the first message.
 fn new_ledger() -> [u8; LEDGER_SIZE]
     ensures { λ r. ⌜ r ≡ newDay .ledger ⌝ }
-    ensures { λ _. ⌜ Documents-example ⌝ }
+    ensures { λ _. ⌜ Examples ⌝ }
 {
     let mut ledger = [0u8; LEDGER_SIZE];
     let caps = Caps {

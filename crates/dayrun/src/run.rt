@@ -1,10 +1,14 @@
 // The whole run: reading, judging and writing by turns.
 ghost use Prim.Native.Nat.{ℕ, _+_, _≤_};
 ghost use mathlib.Core.Path.{_≡_};
+ghost use mathlib.Core.Bool.{true};
 ghost use lib.ListN.{length};
+ghost use lib.Dec.{ltb};
+ghost use Rattle.octets.specs.Part.{splice};
 ghost use Rattle.day.specs.Frame.{longestFrame};
-ghost use Rattle.day.specs.Report.{heading, longestLine, Put};
-ghost use Rattle.dayrun.specs.Progress.{writeSize, blockSize, Reached, Within, Leaves, atFront};
+ghost use Rattle.day.specs.Report.{heading, longestLine, lastLine};
+ghost use Rattle.dayrun.specs.Day.{newDay};
+ghost use Rattle.dayrun.specs.Progress.{writeSize, blockSize, Reached, Within, Leaves, atStart, atFront};
 use crate::input::can_wait;
 use crate::input::keep_rest;
 use crate::input::read_block;
@@ -21,11 +25,14 @@ const MOST_MESSAGES: u64 = 1_000_000_000_000_000_000;
 
 const MOST_READS: u64 = u64::MAX;
 
+// A run that stops before the end of the input leaves some of it over.
+const LEFT_OVER: usize = 1;
+
 // The first line waits to be written.
 fn start(out: &mut [u8]) -> Progress
     requires { ⌜ writeSize + longestLine ≤ length (now out) ⌝ }
-    ensures { λ r. ⌜ Put (now (out .entry)) 0 heading (now (out .exit)) (r .used) ⌝ }
-    ensures { λ r. ⌜ Within 0 writeSize r ⌝ }
+    ensures { λ r. ⌜ r ≡ atStart ⌝ }
+    ensures { λ _. ⌜ now (out .exit) ≡ splice (now (out .entry)) 0 heading ⌝ }
 {
     let used = write_heading(out, 0);
     Progress {
@@ -37,12 +44,13 @@ fn start(out: &mut [u8]) -> Progress
     }
 }
 
-// Writes the last line.
-fn finish(out: &mut [u8], p: Progress, is_cut: bool)
+// Adds the last line, behind so many bytes of a message that is not whole, and writes out what waits.
+fn finish(out: &mut [u8], p: Progress, kept: usize)
     requires { ⌜ p .used + longestLine ≤ length (now out) ⌝ }
+    ensures { λ _. ⌜ (p .«is_open» ≡ true → now (out .exit) ≡ splice (now (out .entry)) (p .used) (lastLine (ltb 0 kept) (p .judged) (p .published))) ⌝ }
 {
     if p.is_open {
-        let used = write_last(out, p.used, is_cut, p.judged, p.published);
+        let used = write_last(out, p.used, 0 < kept, p.judged, p.published);
         io::write_all(libc::STDOUT_FILENO, part_of(out, 0, used));
     }
 }
@@ -99,6 +107,8 @@ fn before_read(out: &[u8], waits: bool, p: Progress) -> Progress
 
 // Reads and judges block by block until the input ends.
 pub fn run(ledger: &mut [u8], tape: &mut [u8], input: &mut [u8], out: &mut [u8])
+    requires { ⌜ now ledger ≡ newDay .ledger ⌝ }
+    requires { ⌜ now tape ≡ newDay .tape ⌝ }
     requires { ⌜ longestFrame + blockSize ≤ length (now input) ⌝ }
     requires { ⌜ writeSize + longestLine ≤ length (now out) ⌝ }
 {
@@ -110,7 +120,7 @@ pub fn run(ledger: &mut [u8], tape: &mut [u8], input: &mut [u8], out: &mut [u8])
         p = before_read(out, waits, p);
         let got = read_block(input, kept);
         if got == 0 {
-            finish(out, p, 0 < kept);
+            finish(out, p, kept);
             return;
         }
         let n = kept + got;
@@ -119,5 +129,5 @@ pub fn run(ledger: &mut [u8], tape: &mut [u8], input: &mut [u8], out: &mut [u8])
         p = from_front(p);
         reads -= 1;
     }
-    finish(out, p, true);
+    finish(out, p, LEFT_OVER);
 }

@@ -12,7 +12,7 @@ use Rattle.day.specs.Frame.{longestFrame}
 use Rattle.day.specs.Report.{longestLine}
 use Rattle.dayrun.specs.Day.{mostMessages}
 use Rattle.dayrun.specs.Progress.{writeSize, blockSize, Within}
-use Rattle.dayrun.proofs.ProgressLaws.{from-start, front-within, front-leaves}
+use Rattle.dayrun.proofs.ProgressLaws.{start-within, from-start, front-within, front-leaves}
 use Rattle.dayrun.proofs.run.run.Statement.{statement}
 use Rattle.dayrun.proofs.run.run.Tie as tie
 
@@ -31,7 +31,7 @@ abbrev μ-loop : tie.MeasureT-loop
 μ-loop ledger₀ tape₀ input₀ out₀ waits p₀ kept₀ reads₀ ledger tape input out p kept reads = reads
 
 loop-holds : tie.Need-loop-holds Inv-loop μ-loop
-loop-holds c = (refl, refl, refl, refl, search needs, search needs, c .before .before .start .ensures .1, λ _ _. search needs)
+loop-holds c = (refl, refl, refl, refl, search needs, search needs, start-within _ (c .before .before .start .ensures .0), λ _ _. search needs)
 
 -- the loop goes on, so less than the longest message is kept
 room : (c : tie.After-before-read Inv-loop μ-loop) → c .before .before .before .before .before .before .loop .kept < longestFrame
@@ -44,7 +44,7 @@ waiting c = c .before-read .ensures .0 0 (c .before .before .before .before .bef
 
 -- what is judged is what is kept and what came
 size : (c : tie.After-part-of Inv-loop μ-loop) → length (now (c .part-of .result)) ≡ c .before .before .before .before .before .before .before .before .before .before .before .before .before .before .before .loop .kept + c .before .before .before .before .before .before .before .read-block .result
-size c = ap length (c .part-of .ensures .0) ∙ length-part _ 0 _ (omega (arith, c .before .before .before .before .before .before .before .read-block .ensures .0))
+size c = ap length (c .part-of .ensures .0) ∙ length-part _ 0 _ (omega (arith, c .before .before .before .before .before .before .before .read-block .ensures .1 .0))
 
 read-block-requires : tie.Need-read-block-requires Inv-loop μ-loop
 read-block-requires c κs = omega (arith, room (c .before), c .before .before .before .before .before .before .before .loop .inv .4)
@@ -53,7 +53,7 @@ finish-requires : tie.Need-finish-requires Inv-loop μ-loop
 finish-requires c κs = omega (arith, waiting (c .before .before .before .before .before .before) .waiting, c .before .before .before .before .before .before .before .before .before .before .before .before .loop .inv .5)
 
 add-n : tie.Need-add-n Inv-loop μ-loop
-add-n c = omega (arith, c .before .before .before .read-block .ensures .1)
+add-n c = omega (arith, c .before .before .before .read-block .ensures .1 .1)
 
 judge-block-requires : tie.Need-judge-block-requires Inv-loop μ-loop
 judge-block-requires c κs = (from-start _ writeSize _ (waiting (c .before .before .before .before .before .before .before .before .before .before)), omega (arith, c .before .before .before .before .before .before .before .before .before .before .before .before .before .before .before .before .loop .inv .5))
@@ -61,7 +61,7 @@ judge-block-requires c κs = (from-start _ writeSize _ (waiting (c .before .befo
 keep-rest-requires : tie.Need-keep-rest-requires Inv-loop μ-loop
 keep-rest-requires c κs =
     let j = c .before .before .before .before .before .before .before in
-    (omega (arith, j .judge-block .ensures .1 .0 .passed, size (j .before .before)), omega (arith, c .before .before .before .before .before .before .before .before .before .before .before .before .before .before .before .before .read-block .ensures .0))
+    (omega (arith, j .judge-block .ensures .1 .0 .passed, size (j .before .before)), omega (arith, c .before .before .before .before .before .before .before .before .before .before .before .before .before .before .before .before .read-block .ensures .1 .0))
 
 sub-reads : tie.Need-sub-reads Inv-loop μ-loop
 sub-reads c = omega (arith, c .before .before .before .before .before .before .before .before .before .before .before .before .before .before .before .before .before .before .before .before .before .before .before .before .before .before .before .loop-test .taken)

@@ -1,4 +1,4 @@
--- Document 01's example of a day, computed. Assumes nothing.
+-- Examples of a day, document 01's among them, computed. Assumes nothing.
 use mathlib.Core.Path.{refl}
 use Rattle.octets.specs.Field.{field}
 use Rattle.octets.specs.Fields.{bytesOf}
@@ -21,9 +21,9 @@ use Rattle.submission.specs.Submission.{submissionRules, verdictOn, submitted}
 use Rattle.day.specs.Frame.{frameOf}
 use Rattle.day.specs.Report.{digitsFrom, digitCount, decimal, line, heading, reportLine, lastLine}
 use Rattle.dayrun.specs.Day as day
-use Rattle.dayrun.specs.Blocks.{Documents-example}
+use Rattle.dayrun.specs.Blocks.{Examples}
 
-pub documents-example : Documents-example
+pub examples : Examples
 unfolding
     field bytesOf fromLe toLe digits splice sameBytes place oneOf beside firstFrom allFrom text u16At entryRight layoutRight entryFrom endOf valueAt value actionOf known hasLayout isCap bands stepIn step nearest rounded lowest firstBroken rulesOf rulesFor rowsInUse firstRow nextIdentifier capsIn sizeOfRows capacityIn capFor areCaps capacityFor headerRight headerFields capFields newHeader openingRules openingVerdict opened submissionRules verdictOn submitted frameOf digitsFrom digitCount decimal line heading reportLine lastLine day.linesOf day.step day.reportFrom day.dayReport
-documents-example = refl
+examples = (refl, refl, refl, refl, refl)
