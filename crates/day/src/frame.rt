@@ -18,6 +18,7 @@ pub enum Frame {
     Partial,
 }
 
+// Reads the length at the front, and looks whether so many bytes have come.
 pub fn next_frame(input: &[u8], longest: usize) -> Frame
     ensures { λ r. ⌜ r ≡ frameOf longest (now (input .entry)) ⌝ }
     ensures { λ r. ⌜ Fits (now (input .entry)) r ⌝ }

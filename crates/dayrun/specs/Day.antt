@@ -81,7 +81,7 @@ reportFrom (suc k) d xs =
     (lastLine (ltb 0 (length xs)) (d .judged) (d .published))
     (step d xs .line ++ reportFrom k (step d xs .after) (drop (step d xs .taken) xs))
 
--- the day before its first message; what the buffers hold before opening does not matter
+-- the day before its first message, on buffers of zeros
 abbrev pub newDay : Day
 newDay =
     record {
