@@ -2,8 +2,10 @@
 use Prim.Native.Nat.{ℕ, _+_, _<_, _≤_}
 use mathlib.Core.Bool.{true}
 use mathlib.Core.Path.{_≡_, sym, ap, _∙_}
+use mathlib.Core.Logic.{_⊎_, inl, inr}
 use mathlib.Core.List.{List, [], _∷_, _++_}
 use native.Mathlib.Numerals.{add-one}
+use native.Mathlib.Decide.{decLt}
 use native.Mathlib.Omega.{arith}
 use borrow.Author.Tests.{lt-ltb, le-ltb, le-leb, lt-leb, leb-true}
 use lib.ListN.{length, drop, getD, set, length-append, length-drop}
@@ -78,6 +80,15 @@ whole-more xs ys e =
     let two : leb lengthSize (length (xs ++ ys)) ≡ true = le-leb lengthSize (length (xs ++ ys)) (omega (arith, h .0, n)) in
     let all : leb (lengthSize + lengthOf (xs ++ ys)) (length (xs ++ ys)) ≡ true = le-leb _ (length (xs ++ ys)) (omega (arith, h .1, n, length-more xs ys (h .0))) in
     rw (two, all)
+
+-- it is a message or too long
+pub whole-frame : (longest : ℕ) (xs : List ℕ) → isWhole xs ≡ true → (frameOf longest xs ≡ Overlong (lengthOf xs)) ⊎ (frameOf longest xs ≡ Message (lengthOf xs))
+whole-frame longest xs e =
+    let h : (lengthSize ≤ length xs) × (lengthSize + lengthOf xs ≤ length xs) = whole-length xs e in
+    elim (decLt longest (lengthOf xs)) [
+      | yes l ↦ inl (too-long longest xs (h .0) (h .1) l)
+      | no l ↦ inr (a-message longest xs (h .0) (h .1) (omega (arith, l)))
+    ]
 
 pub frame-more : (longest : ℕ) (xs ys : List ℕ) → isWhole xs ≡ true → frameOf longest (xs ++ ys) ≡ frameOf longest xs
 unfolding frameOf

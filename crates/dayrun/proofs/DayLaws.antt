@@ -2,8 +2,8 @@
 use Prim.Native.Nat.{ℕ, zero, suc, _+_, _<_, _≤_}
 use mathlib.Core.Bool.{Bool, true, false}
 use mathlib.Core.Path.{_≡_, refl, sym, ap, _∙_}
+use mathlib.Core.Logic.{⊎-elim}
 use mathlib.Core.List.{List, _++_}
-use native.Mathlib.Decide.{decLt}
 use native.Mathlib.Omega.{arith}
 use borrow.Author.Tests.{ne-eqb}
 use lib.ListN.{length, take, drop, length-drop}
@@ -16,7 +16,7 @@ use Rattle.submission.specs.Submission.{submitted, refused}
 use Rattle.day.specs.declared.frame.Frame.{Frame}
 use Rattle.day.specs.declared.frame.Frame.the-variants.{Message, Overlong, Partial}
 use Rattle.day.specs.Frame.{lengthSize, lengthOf, isWhole, frameOf}
-use Rattle.day.proofs.FrameLaws.{whole-length, frame-more, too-long, a-message}
+use Rattle.day.proofs.FrameLaws.{whole-length, whole-frame, frame-more}
 use Rattle.dayrun.specs.Day.{Day, Step, answered, stepOn, step, afterMessages, restAfter, reportFrom}
 use Rattle.dayrun.specs.Blocks.{Judged-at-once}
 
@@ -76,27 +76,22 @@ part-more xs ys at n h =
 -- a message that has come whole comes to the same
 pub step-more : (d : Day) (xs ys : List ℕ) → isWhole xs ≡ true → step d (xs ++ ys) ≡ step d xs
 step-more d xs ys e =
-    let h : (lengthSize ≤ length xs) × (lengthSize + lengthOf xs ≤ length xs) = whole-length xs e in
     let more = frame-more (documentLimits .longest) xs ys e in
-    elim (decLt (documentLimits .longest) (lengthOf xs)) [
-      | yes long ↦
-          let f = too-long (documentLimits .longest) xs (h .0) (h .1) long in
-          step-overlong d (xs ++ ys) (lengthOf xs) (more ∙ f) ∙ sym (step-overlong d xs (lengthOf xs) f)
-      | no short ↦
-          let f = a-message (documentLimits .longest) xs (h .0) (h .1) (omega (arith, short)) in
-          step-message d (xs ++ ys) (lengthOf xs) (more ∙ f)
-          ∙ ap (λ (m : List ℕ). answered d (lengthOf xs) (submitted documentLimits (d .ledger) (d .tape) m)) (part-more xs ys lengthSize (lengthOf xs) (h .1))
-          ∙ sym (step-message d xs (lengthOf xs) f)
-    ]
+    ⊎-elim
+    (λ f. step-overlong d (xs ++ ys) (lengthOf xs) (more ∙ f) ∙ sym (step-overlong d xs (lengthOf xs) f))
+    (λ f.
+    step-message d (xs ++ ys) (lengthOf xs) (more ∙ f)
+    ∙ ap (λ (m : List ℕ). answered d (lengthOf xs) (submitted documentLimits (d .ledger) (d .tape) m)) (part-more xs ys lengthSize (lengthOf xs) (whole-length xs e .1))
+    ∙ sym (step-message d xs (lengthOf xs) f))
+    (whole-frame (documentLimits .longest) xs e)
 
 -- and takes its length and its bytes
 step-takes : (d : Day) (xs : List ℕ) → isWhole xs ≡ true → step d xs .taken ≡ lengthSize + lengthOf xs
 step-takes d xs e =
-    let h : (lengthSize ≤ length xs) × (lengthSize + lengthOf xs ≤ length xs) = whole-length xs e in
-    elim (decLt (documentLimits .longest) (lengthOf xs)) [
-      | yes long ↦ ap (λ (s : Step). s .taken) (step-overlong d xs (lengthOf xs) (too-long (documentLimits .longest) xs (h .0) (h .1) long))
-      | no short ↦ ap (λ (s : Step). s .taken) (step-message d xs (lengthOf xs) (a-message (documentLimits .longest) xs (h .0) (h .1) (omega (arith, short))))
-    ]
+    ⊎-elim
+    (λ f. ap (λ (s : Step). s .taken) (step-overlong d xs (lengthOf xs) f))
+    (λ f. ap (λ (s : Step). s .taken) (step-message d xs (lengthOf xs) f))
+    (whole-frame (documentLimits .longest) xs e)
 
 -- where a step takes nothing no message is whole
 pub not-whole-left : (d : Day) (xs : List ℕ) → step d xs .taken ≡ 0 → isWhole xs ≡ false

@@ -40,15 +40,14 @@ fits : (c : tie.After-next-frame) → Fits (rest c) (c .next-frame .result)
 fits c = subst (λ (xs : List ℕ). Fits xs (c .next-frame .result)) (all-lent (now (start c .args .input)) (start c .args .p .at)) (c .next-frame .ensures .1)
 
 -- the message, or the one that is too long, lies within the input
+lies-within : (xs : List ℕ) (at n : ℕ) → at ≤ length xs → n ≤ length (drop at xs) → at + n ≤ length xs
+lies-within xs at n h l = omega (arith, h, l, length-drop at xs)
+
 message-fits : (c : tie.After-n) → start (c .before .before) .args .p .at + (lengthSize + c .n .given .0 .0) ≤ length (now (start (c .before .before) .args .input))
-message-fits c =
-    let h : lengthSize + c .n .given .0 .0 ≤ length (rest (c .before .before)) = subst (Fits (rest (c .before .before))) (c .n .given .1) (fits (c .before .before)) in
-    omega (arith, h, length-drop (start (c .before .before) .args .p .at) (now (start (c .before .before) .args .input)))
+message-fits c = lies-within _ _ _ (start (c .before .before) .pre .0) (subst (Fits (rest (c .before .before))) (c .n .given .1) (fits (c .before .before)))
 
 overlong-fits : (c : tie.After-n2) → start (c .before .before) .args .p .at + (lengthSize + c .n2 .given .0 .0) ≤ length (now (start (c .before .before) .args .input))
-overlong-fits c =
-    let h : lengthSize + c .n2 .given .0 .0 ≤ length (rest (c .before .before)) = subst (Fits (rest (c .before .before))) (c .n2 .given .1) (fits (c .before .before)) in
-    omega (arith, h, length-drop (start (c .before .before) .args .p .at) (now (start (c .before .before) .args .input)))
+overlong-fits c = lies-within _ _ _ (start (c .before .before) .pre .0) (subst (Fits (rest (c .before .before))) (c .n2 .given .1) (fits (c .before .before)))
 
 add-report : tie.Need-add-report
 add-report c = omega (arith, message-fits (c .before .before .before .before .before .before .before .before .before .before))
