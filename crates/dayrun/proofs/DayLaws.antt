@@ -10,9 +10,8 @@ use lib.ListN.{length, take, drop, length-drop}
 use lib.Seq.{take-append-le, drop-append-le}
 use lib.Dec.{eqb}
 use Rattle.octets.specs.Part.{part}
-use Rattle.rules.specs.Verdicts.{layoutWrong}
 use Rattle.submission.specs.Opening.{documentLimits}
-use Rattle.submission.specs.Submission.{submitted, refused}
+use Rattle.submission.specs.Submission.{submitted}
 use Rattle.day.specs.declared.frame.Frame.{Frame}
 use Rattle.day.specs.declared.frame.Frame.the-variants.{Message, Overlong, Partial}
 use Rattle.day.specs.Frame.{lengthSize, lengthOf, isWhole, frameOf}
@@ -22,18 +21,9 @@ use Rattle.dayrun.specs.Blocks.{Judged-at-once}
 
 -- ---- a step, by what stands at the front
 
-module _ (d : Day) (xs : List ℕ) where
-  pub step-message : (n : ℕ) → frameOf (documentLimits .longest) xs ≡ Message n → step d xs ≡ answered d n (submitted documentLimits (d .ledger) (d .tape) (part xs lengthSize n))
-  unfolding step
-  step-message n e = ap (stepOn d xs) e
-
-  pub step-overlong : (n : ℕ) → frameOf (documentLimits .longest) xs ≡ Overlong n → step d xs ≡ answered d n (refused (layoutWrong, 0) (d .ledger) (d .tape))
-  unfolding step
-  step-overlong n e = ap (stepOn d xs) e
-
-  pub step-partial : frameOf (documentLimits .longest) xs ≡ Partial → step d xs ≡ stepOn d xs Partial
-  unfolding step
-  step-partial e = ap (stepOn d xs) e
+pub step-on : (d : Day) (xs : List ℕ) (f : Frame) → frameOf (documentLimits .longest) xs ≡ f → step d xs ≡ stepOn d xs f
+unfolding step
+step-on d xs f e = ap (stepOn d xs) e
 
 -- a step that takes nothing changes nothing, any other counts one message
 none-taken : (d : Day) (xs : List ℕ) (f : Frame) → stepOn d xs f .taken ≡ 0 → stepOn d xs f .after ≡ d
@@ -77,20 +67,21 @@ part-more xs ys at n h =
 pub step-more : (d : Day) (xs ys : List ℕ) → isWhole xs ≡ true → step d (xs ++ ys) ≡ step d xs
 step-more d xs ys e =
     let more = frame-more (documentLimits .longest) xs ys e in
+    let sent = part-more xs ys lengthSize (lengthOf xs) (whole-length xs e .1) in
     ⊎-elim
-    (λ f. step-overlong d (xs ++ ys) (lengthOf xs) (more ∙ f) ∙ sym (step-overlong d xs (lengthOf xs) f))
+    (λ f. step-on d (xs ++ ys) (Overlong (lengthOf xs)) (more ∙ f) ∙ sym (step-on d xs (Overlong (lengthOf xs)) f))
     (λ f.
-    step-message d (xs ++ ys) (lengthOf xs) (more ∙ f)
-    ∙ ap (λ (m : List ℕ). answered d (lengthOf xs) (submitted documentLimits (d .ledger) (d .tape) m)) (part-more xs ys lengthSize (lengthOf xs) (whole-length xs e .1))
-    ∙ sym (step-message d xs (lengthOf xs) f))
+    step-on d (xs ++ ys) (Message (lengthOf xs)) (more ∙ f)
+    ∙ ap (λ (m : List ℕ). answered d (lengthOf xs) (submitted documentLimits (d .ledger) (d .tape) m)) sent
+    ∙ sym (step-on d xs (Message (lengthOf xs)) f))
     (whole-frame (documentLimits .longest) xs e)
 
 -- and takes its length and its bytes
 step-takes : (d : Day) (xs : List ℕ) → isWhole xs ≡ true → step d xs .taken ≡ lengthSize + lengthOf xs
 step-takes d xs e =
     ⊎-elim
-    (λ f. ap (λ (s : Step). s .taken) (step-overlong d xs (lengthOf xs) f))
-    (λ f. ap (λ (s : Step). s .taken) (step-message d xs (lengthOf xs) f))
+    (λ f. ap (λ (s : Step). s .taken) (step-on d xs (Overlong (lengthOf xs)) f))
+    (λ f. ap (λ (s : Step). s .taken) (step-on d xs (Message (lengthOf xs)) f))
     (whole-frame (documentLimits .longest) xs e)
 
 -- where a step takes nothing no message is whole

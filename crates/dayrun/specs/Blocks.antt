@@ -1,4 +1,4 @@
--- Document 01, 'The day run': the report does not depend on the pieces in which the input comes.
+-- Document 01, 'The day run': the report does not depend on the pieces in which the input comes; examples of it.
 use Prim.Native.Nat.{ℕ, suc}
 use mathlib.Core.Bool.{true}
 use mathlib.Core.Path.{_≡_}

@@ -109,7 +109,9 @@ impl Reading<'_> {
         let refused_so = answer.verdict == names::LAYOUT_WRONG && answer.element == 0;
         if message.len() > names::LONGEST_MESSAGE && !refused_so {
             return Err(format!(
-                "message {due} is longer than 2,048 bytes, which gives verdict 5 and element 0"
+                "message {due} is longer than {}, which gives verdict {} and element 0",
+                names::LONGEST_IN_WORDS,
+                names::LAYOUT_WRONG
             ));
         }
         Ok(message)

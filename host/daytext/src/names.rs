@@ -74,6 +74,8 @@ pub const LAYOUT_WRONG: u64 = 5;
 
 /// The longest message; a longer one is passed over.
 pub const LONGEST_MESSAGE: usize = 2048;
+/// The same in words.
+pub const LONGEST_IN_WORDS: &str = "2,048 bytes";
 
 /// Identifiers of tape lines stay below this.
 pub const IDENTIFIER_LIMIT: u64 = 1_000_000_000_000;

@@ -19,7 +19,8 @@ pub fn write_message(
     if length > names::LONGEST_MESSAGE {
         return writeln!(
             out,
-            "message {position}: longer than 2,048 bytes ({length}) and passed over"
+            "message {position}: longer than {} ({length}) and passed over",
+            names::LONGEST_IN_WORDS
         );
     }
     let mut words = vec![swap_words(message), action_words(message)];
