@@ -2,7 +2,6 @@
 use Prim.Native.Nat.{ℕ}
 use mathlib.Core.Bool.{Bool, true, false}
 use mathlib.Core.List.{List, []}
-use lib.ListN.{length}
 use lib.Dec.{eqb}
 use Rattle.octets.specs.Choice.{choose, both}
 use Rattle.octets.specs.Text.{text}
@@ -13,10 +12,6 @@ use Rattle.message.specs.Values.{value}
 use Rattle.elements.specs.Codes.{cleared, nonStandardizedTerm, packageIndicator, packageIdentifier, priceNotation, priceCurrency}
 use Rattle.elements.specs.declared.conditions.Condition.{Condition}
 use Rattle.elements.specs.declared.conditions.Condition.the-variants.{Unconditional, ClearedIsN, Package, PackageInCurrency}
-
--- no value is empty, so an element without bytes is missing
-unfoldable pub isMissing : ℕ → List ℕ → Bool
-isMissing code m = eqb (length (value code m)) 0
 
 -- 15 is true
 unfoldable pub isPackage : List ℕ → Bool

@@ -1,6 +1,6 @@
 // Elements that are needed under a condition, and what is left out where it is not met.
 ghost use mathlib.Core.Path.{_≡_};
-ghost use Rattle.elements.specs.Conditions.{isMissing, isPackage, notationIs, conditionOf, met, isConditional, isDue, kept};
+ghost use Rattle.elements.specs.Conditions.{isPackage, notationIs, conditionOf, met, isConditional, isDue, kept};
 use crate::codes::CLEARED;
 use crate::codes::NON_STANDARDIZED_TERM;
 use crate::codes::PACKAGE_IDENTIFIER;
@@ -15,13 +15,6 @@ pub enum Condition {
     ClearedIsN,
     Package,
     PackageInCurrency,
-}
-
-pub fn is_missing(m: &[u8], code: u16) -> bool
-    ensures { λ r. ⌜ r ≡ isMissing code (now (m .entry)) ⌝ }
-{
-    let v = element(m, code);
-    v.len() == 0
 }
 
 // Whether the package indicator is true.

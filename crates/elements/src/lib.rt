@@ -24,7 +24,6 @@ pub use codes::SETTLEMENT_DATE;
 pub use codes::SETTLEMENT_LOCATION;
 pub use codes::UTI;
 pub use conditions::is_due;
-pub use conditions::is_missing;
 pub use conditions::is_package;
 pub use conditions::kept;
 pub use conditions::notation_is;

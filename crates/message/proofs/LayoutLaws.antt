@@ -28,6 +28,11 @@ module _ (longest most : ℕ) (known : List Bool) (m : List ℕ) (right : layout
       both-second (leb (count m) most) _ (both-second (leb (length m) longest) _ (both-second (leb countSize (length m)) _ right)) in
       rw zero-add at (all-at (entryRight known m) 0 (count m) k h (rw (ne-eqb _ _ z) at r))
 
+  -- a code is known
+  pub code-known : (k : ℕ) → k < count m → getD known (codeAt m k) false ≡ true
+  unfolding entryRight
+  code-known k h = both-first (getD known (codeAt m k) false) _ (entries k h)
+
   -- an offset lies below the length
   pub offset-inside : (k : ℕ) → k < count m → offsetAt m k < length m
   unfolding entryRight
@@ -119,7 +124,7 @@ module _ (longest most : ℕ) (known : List Bool) (m : List ℕ) (right : layout
       omega (arith, ap length e)
 
   -- codes rise over any distance
-  code-apart : (d i j : ℕ) → j ≡ i + (d + 1) → j < count m → codeAt m i < codeAt m j
+  pub code-apart : (d i j : ℕ) → j ≡ i + (d + 1) → j < count m → codeAt m i < codeAt m j
   code-apart zero i j e h = rw e (code-rises i (omega arith))
   code-apart (suc d) i j e h =
       let near : codeAt m i < codeAt m (i + (d + 1)) = code-apart d i (i + (d + 1)) refl (omega arith) in

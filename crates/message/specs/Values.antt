@@ -1,5 +1,6 @@
 -- Document 01, 'The message': the value of an element.
 use Prim.Native.Nat.{ℕ, zero, suc, _+_, _-_}
+use mathlib.Core.Bool.{Bool}
 use mathlib.Core.List.{List, [], _++_}
 use lib.ListN.{length}
 use lib.Dec.{ltb, eqb}
@@ -23,6 +24,10 @@ valueAt m k = choose (ltb k (count m)) (part m (offsetAt m k) (endOf m k - offse
 -- the value of the element with a code, nothing where the element is missing
 unfoldable pub value : ℕ → List ℕ → List ℕ
 value code m = valueAt m (entryFrom m code 0)
+
+-- no value is empty, so an element is there where it has bytes
+unfoldable pub isThere : ℕ → List ℕ → Bool
+isThere code m = ltb 0 (length (value code m))
 
 -- the values of the d entries from k on, one after the other
 unfoldable pub valuesFrom : List ℕ → ℕ → ℕ → List ℕ

@@ -16,6 +16,15 @@ pub both-false : (a b : Bool) → both a b ≡ false → a ≡ true → b ≡ fa
 both-false true b e f = e
 both-false false b e f = absurd (false≢true f)
 
+-- a test of two tests, by the second
+pub both-last : (a b : Bool) → b ≡ true → both a b ≡ a
+both-last true b e = e
+both-last false b e = refl
+
+pub both-none : (a b : Bool) → b ≡ false → both a b ≡ false
+both-none true b e = e
+both-none false b e = refl
+
 pub not-not : (b : Bool) → not b ≡ false → b ≡ true
 not-not true e = refl
 not-not false e = absurd (false≢true (sym e))

@@ -142,7 +142,14 @@ pub fn read_at(s: &[u8], at: usize, n: usize) -> u64
     requires { ⌜ n ≤ 8 ⌝ }
     ensures { λ r. ⌜ (r ≡ fromLe (part (now (s .entry)) at n)) × (r < 256 ^ n) ⌝ }
 {
-    read_le(part_of(s, at, n))
+    if s.len() < at {
+        return 0;
+    }
+    if s.len() - at < n {
+        return read_le(&s[at..]);
+    }
+    let end = at + n;
+    read_le(&s[at..end])
 }
 
 // Copies src into dst from `at` on.

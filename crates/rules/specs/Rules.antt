@@ -8,7 +8,7 @@ use Rattle.octets.specs.Choice.{choose, both, either}
 use Rattle.octets.specs.Text.{text}
 use Rattle.numbers.specs.Numbers.{wholeOf, decimalsOf, unsignedOf}
 use Rattle.dates.specs.Dates.{before}
-use Rattle.message.specs.Values.{value}
+use Rattle.message.specs.Values.{value, isThere}
 use Rattle.actions.specs.declared.Action.{Action}
 use Rattle.actions.specs.declared.Checked.{Checked}
 use Rattle.actions.specs.declared.Checked.the-variants as checked
@@ -17,7 +17,7 @@ use Rattle.actions.specs.Elements.{hasLayout, takes, needs}
 use Rattle.actions.specs.Matrix.{pairAllowed}
 use Rattle.elements.specs.Codes.{eventType, reportingTime, executionTime, effectiveDate, expirationDate, settlementDate, packagePrice}
 use Rattle.elements.specs.Forms.{hasForm}
-use Rattle.elements.specs.Conditions.{isMissing, isPackage, notationIs, isDue}
+use Rattle.elements.specs.Conditions.{isPackage, notationIs, isDue}
 use Rattle.rules.specs.Verdicts.{layoutWrong, noAction, neededMissing, notTaken, formBroken, notPair, dueMissing, priceLong, orderWrong}
 use Rattle.rules.specs.Findings.{Finding, passed, broken, brokenIf, lowest, firstBroken}
 use Rattle.rules.specs.declared.Judged.{Judged}
@@ -36,10 +36,10 @@ answerOf a (broken code) = checked.Fault code
 
 -- an element is at fault: it is needed and missing (7), there and not taken (8), there in a broken form (9), or due under its condition and missing (11)
 abbrev pub atFault : Check → Action → List ℕ → ℕ → Bool
-atFault Needed a m code = both (needs a code) (isMissing code m)
-atFault Taken a m code = both (not (isMissing code m)) (not (takes a code))
-atFault Formed a m code = both (not (isMissing code m)) (not (hasForm code (value code m)))
-atFault Due a m code = both (isDue code m) (isMissing code m)
+atFault Needed a m code = both (needs a code) (not (isThere code m))
+atFault Taken a m code = both (isThere code m) (not (takes a code))
+atFault Formed a m code = both (isThere code m) (not (hasForm code (value code m)))
+atFault Due a m code = both (isDue code m) (not (isThere code m))
 
 -- a price with notation 3 has at most 11 digits, 10 after the point (12)
 abbrev pub notationThreeDigits : ℕ

@@ -1,5 +1,7 @@
 // The rules one by one.
 ghost use mathlib.Core.Path.{_≡_};
+ghost use Rattle.message.specs.Values.{isThere};
+ghost use Rattle.message.specs.Reading.{Laid, Reached};
 ghost use Rattle.rules.specs.Findings.{lowest};
 ghost use Rattle.rules.specs.Rules.{answerOf, atFault, longPrice, priceTooLong, elementBefore, outOfOrder};
 use actions::Action;
@@ -12,6 +14,9 @@ use elements::PACKAGE_PRICE;
 use elements::REPORTING_TIME;
 use elements::SETTLEMENT_DATE;
 use message::element;
+use message::is_here;
+use message::next_place;
+use message::value_at;
 
 // The checks that name the lowest element code at fault: 7, 8, 9 and 11.
 pub enum Check {
@@ -26,47 +31,54 @@ const NOTATION_THREE_DIGITS: usize = 11;
 
 const NOTATION_THREE_DECIMALS: usize = 10;
 
-// Whether an element is at fault.
-fn is_at_fault(m: &[u8], action: Action, check: Check, code: u16) -> bool
+// Whether an element is at fault: `here` says whether it is there, at the place that the reader has come to.
+fn is_at_fault(m: &[u8], action: Action, check: Check, code: u16, at: usize, here: bool) -> bool
+    requires { ⌜ Laid (now m) ⌝ }
+    requires { ⌜ Reached (now m) code at ⌝ }
+    requires { ⌜ here ≡ isThere code (now m) ⌝ }
     ensures { λ r. ⌜ r ≡ atFault check action (now (m .entry)) code ⌝ }
 {
     match check {
         Check::Needed => {
-            if actions::is_needed(action, code as usize) {
-                return elements::is_missing(m, code);
+            if here {
+                return false;
             }
-            false
+            actions::is_needed(action, code as usize)
         }
         Check::Taken => {
-            if elements::is_missing(m, code) {
+            if !here {
                 return false;
             }
             !actions::is_taken(action, code as usize)
         }
         Check::Formed => {
-            if elements::is_missing(m, code) {
+            if !here {
                 return false;
             }
-            !elements::has_form(code, element(m, code))
+            !elements::has_form(code, value_at(m, at))
         }
         Check::Due => {
-            if elements::is_due(m, code) {
-                return elements::is_missing(m, code);
+            if here {
+                return false;
             }
-            false
+            elements::is_due(m, code)
         }
     }
 }
 
-// The lowest element code at fault, or the action.
+// The lowest element code at fault, or the action. Codes rise, so one reader comes to each of them in turn.
 pub fn lowest_fault(m: &[u8], action: Action, check: Check) -> Checked
+    requires { ⌜ Laid (now m) ⌝ }
     ensures { λ r. ⌜ r ≡ answerOf action (lowest (atFault check action (now (m .entry)))) ⌝ }
 {
     let mut code: u16 = 1;
+    let mut at: usize = 0;
     while code as usize <= LAST_CODE {
-        if is_at_fault(m, action, check, code) {
+        let here = is_here(m, code, at);
+        if is_at_fault(m, action, check, code, at, here) {
             return Checked::Fault(code as u8);
         }
+        at = next_place(at, here);
         code += 1;
     }
     Checked::Value(action)

@@ -18,8 +18,8 @@ use Rattle.actions.specs.Actions.{isNew, writesLine}
 use Rattle.actions.specs.Statuses.{live, ported, unknown, noStep, nextStatus}
 use Rattle.actions.proofs.KindLaws.{old-unknown, new-unknown}
 use Rattle.elements.specs.Codes.{uti}
+use Rattle.message.specs.Values.{isThere}
 use Rattle.elements.specs.Forms.{formOf, hasForm}
-use Rattle.elements.specs.Conditions.{isMissing}
 use Rattle.rules.specs.declared.checks.Check.the-variants.{Needed, Formed}
 use Rattle.rules.specs.Findings.{passed, broken, firstBroken}
 use Rattle.rules.specs.Rules.{rulesFor, rulesOf, atFault}
@@ -160,15 +160,15 @@ module _ (limits : Limits) (l t m : List ℕ) (a : Action) (passes : (i : ℕ) �
   unfolding submissionRules rulesFor rulesOf swapRules findsSpent
   spent-test = not-broken _ (passes spentPlace (lit< tt))
 
-  there : isMissing uti m ≡ false
+  there : isThere uti m ≡ true
   unfolding submissionRules rulesFor rulesOf swapRules
-  there = lowest-passed (atFault Needed a m) (passes (messagePlace neededAt) (lit< tt)) uti (lit≤ tt) (lit≤ tt)
+  there = not-not _ (lowest-passed (atFault Needed a m) (passes (messagePlace neededAt) (lit< tt)) uti (lit≤ tt) (lit≤ tt))
 
   formed : hasForm uti (swapOf m) ≡ true
   unfolding submissionRules rulesFor rulesOf swapRules
   formed =
-      let f : both (not (isMissing uti m)) (not (hasForm uti (swapOf m))) ≡ false = lowest-passed (atFault Formed a m) (passes (messagePlace formedAt) (lit< tt)) uti (lit≤ tt) (lit≤ tt) in
-      not-not _ (both-false (not (isMissing uti m)) (not (hasForm uti (swapOf m))) f (ap not there))
+      let f : both (isThere uti m) (not (hasForm uti (swapOf m))) ≡ false = lowest-passed (atFault Formed a m) (passes (messagePlace formedAt) (lit< tt)) uti (lit≤ tt) (lit≤ tt) in
+      not-not _ (both-false (isThere uti m) (not (hasForm uti (swapOf m))) f there)
 
   row-right : isKnown l (swapOf m) ≡ true → rowRight (nextIdentifier l) (swapRow l (swapOf m)) ≡ true
   unfolding hasWrongRow

@@ -9,8 +9,10 @@ use denote.Ref.{now}
 use Rattle.actions.specs.declared.Action.{Action}
 use Rattle.actions.specs.declared.Checked.{Checked}
 use Rattle.actions.specs.Actions.{actionCode, actionOf}
+use Rattle.actions.specs.Elements.{lastCode, known, hasLayout}
 use Rattle.actions.specs.Matrix.{pairAllowed}
 use Rattle.message.specs.Values.{value}
+use Rattle.message.specs.Reading.{Laid}
 use Rattle.elements.specs.Codes.{eventType}
 use Rattle.rules.specs.declared.Judged.{Judged}
 use Rattle.rules.specs.Verdicts.{layoutWrong, noAction, neededMissing, notTaken, formBroken, dueMissing}
@@ -51,6 +53,18 @@ r7 c = r6 (c .before .before)
 
 abbrev r8 : tie.Else4 → tie.After-read-action
 r8 c = r7 (c .before .before)
+
+-- where the layout is right, codes can be read one after the other
+laid : (c : tie.After-read-action) → Laid (m0 c)
+unfolding hasLayout known
+laid c =
+    record {
+      longest = c .before .before .before .before .before .args .longest;
+      most = lastCode;
+      known = known;
+      right = sym (c .before .before .before .has-layout .ensures) ∙ not-false _ (c .before .before .if1 .left);
+      none = refl;
+    }
 
 -- the action that each check hands on
 abbrev a1 : tie.After-known-told → Action
@@ -175,17 +189,17 @@ judge-spec =
     (λ c. search needs)
     (λ c κs. search needs)
     returns-2
-    (λ c κs. search needs)
+    (λ c κs. laid (r1 c))
     (λ c. search needs)
     (λ c. search needs)
     (λ c κs. search needs)
     returns-3
-    (λ c κs. search needs)
+    (λ c κs. laid (r2 c))
     (λ c. search needs)
     (λ c. search needs)
     (λ c κs. search needs)
     returns-4
-    (λ c κs. search needs)
+    (λ c κs. laid (r3 c))
     (λ c. search needs)
     (λ c. search needs)
     (λ c κs. search needs)
@@ -193,7 +207,7 @@ judge-spec =
     (λ c κs. search needs)
     (λ c κs. search needs)
     returns-6
-    (λ c κs. search needs)
+    (λ c κs. laid (r5 c))
     (λ c. search needs)
     (λ c. search needs)
     (λ c κs. search needs)

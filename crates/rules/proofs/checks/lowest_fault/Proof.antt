@@ -1,11 +1,14 @@
--- `rules::checks::lowest_fault` meets its contract. The invariant: the first code at fault from here on is the first. Assumes nothing.
+-- `rules::checks::lowest_fault` meets its contract. The invariant: the reader has come to the code, and the first code at fault from here on is the first. Assumes nothing.
 use Prim.Native.Nat.{_+_, _-_, _<_, _≤_}
-use mathlib.Core.Path.{_≡_, refl, sym, _∙_}
+use mathlib.Core.Path.{_≡_, refl, sym, ap, _∙_, subst⁻¹}
 use native.Mathlib.Omega.{arith}
 use borrow.Author.Tests.{le-leb, lt-leb}
 use denote.Ref.{now}
 use Rattle.octets.specs.Search.{firstFrom}
 use Rattle.octets.proofs.SearchLaws.{first-more, first-stop, first-end}
+use Rattle.message.specs.Values.{isThere}
+use Rattle.message.specs.Reading.{Laid, Reached, nextPlace}
+use Rattle.message.proofs.ReadingLaws.{reached-start, reached-next}
 use Rattle.actions.specs.Elements.{lastCode}
 use Rattle.rules.specs.Findings.{lowest}
 use Rattle.rules.specs.Rules.{atFault}
@@ -14,33 +17,43 @@ use Rattle.rules.proofs.checks.lowest_fault.Statement.{statement}
 use Rattle.rules.proofs.checks.lowest_fault.Tie as tie
 
 abbrev Inv-loop : tie.InvT-loop
-Inv-loop m action check code₀ code =
-    (1 ≤ code)
-    × (code ≤ lastCode + 1)
+Inv-loop m action check code₀ at₀ code at =
+    (code ≤ lastCode + 1)
+    × Laid m
+    × Reached m code at
+    × (at < code)
     × (firstFrom (atFault check action m) code (lastCode + 1 - code) ≡ firstFrom (atFault check action m) 1 lastCode)
 
 abbrev μ-loop : tie.MeasureT-loop
-μ-loop m action check code₀ code = lastCode + 1 - code
+μ-loop m action check code₀ at₀ code at = lastCode + 1 - code
 
 loop-holds : tie.Need-loop-holds Inv-loop μ-loop
-loop-holds c = (search needs, search needs, refl)
+loop-holds c = (search needs, search needs, reached-start (now (c .before .args .m)) (search needs), search needs, refl)
 
 returns : tie.Need-returns Inv-loop μ-loop
 unfolding lowest
 returns c =
-    let a = c .before .before .before .before .before .args in
-    let l = c .before .before .before .loop in
+    let a = c .before .before .before .before .before .before .args in
+    let l = c .before .before .before .before .loop in
     let h : l .code < lastCode + 1 = omega arith in
     let u : l .code ≤ lastCode = omega arith in
     let found = first-stop (atFault (a .check) (a .action) (now (a .m))) (l .code) (lastCode + 1) h (sym (c .before .is-at-fault .ensures) ∙ c .if1 .taken) in
-    rw (sym (l .inv .2) ∙ found, le-leb _ _ u)
+    rw (sym (l .inv .4) ∙ found, le-leb _ _ u)
 
 loop-again : tie.Need-loop-again Inv-loop μ-loop
 loop-again c =
-    let a = c .before .before .before .before .before .args in
-    let l = c .before .before .before .loop in
+    let a = c .before .before .before .before .before .before .before .args in
+    let l = c .before .before .before .before .before .loop in
     let h : l .code < lastCode + 1 = omega arith in
-    (omega arith, omega arith, sym (first-more (atFault (a .check) (a .action) (now (a .m))) (l .code) (lastCode + 1) h (sym (c .before .is-at-fault .ensures) ∙ c .if1 .left)) ∙ l .inv .2)
+    let here = c .before .before .before .is-here .ensures in
+    let next : c .next-place .result ≡ nextPlace (l .at) (isThere (l .code) (now (a .m))) = c .next-place .ensures .0 ∙ ap (nextPlace (l .at)) here in
+    let r : Reached (now (a .m)) (l .code + 1) (c .next-place .result) = subst⁻¹ (Reached (now (a .m)) (l .code + 1)) next (reached-next (now (a .m)) (l .inv .1) (l .code) (l .at) (l .inv .2)) in (
+      omega arith,
+      l .inv .1,
+      r,
+      omega (arith, c .next-place .ensures .1, l .inv .3),
+      sym (first-more (atFault (a .check) (a .action) (now (a .m))) (l .code) (lastCode + 1) h (sym (c .before .before .is-at-fault .ensures) ∙ c .before .if1 .left)) ∙ l .inv .4,
+    )
 
 returns-2 : tie.Need-returns-2 Inv-loop μ-loop
 unfolding lowest
@@ -50,7 +63,7 @@ returns-2 c =
     let h : lastCode + 1 ≤ l .code = omega arith in
     let u : lastCode < l .code = omega arith in
     let none = first-end (atFault (a .check) (a .action) (now (a .m))) (l .code) (lastCode + 1) h in
-    rw (sym (l .inv .2) ∙ none, lt-leb _ _ u)
+    rw (sym (l .inv .4) ∙ none, lt-leb _ _ u)
 
 pub lowest-fault-spec : {M : Type 1} → statement M
 lowest-fault-spec =
@@ -61,8 +74,10 @@ lowest-fault-spec =
     loop-holds
     (λ c. search needs)
     (λ c κs. search needs)
+    (λ c κs. search needs)
     (λ c. search needs)
     returns
+    (λ c κs. search needs)
     (λ c. search needs)
     (λ c. search needs)
     loop-again

@@ -1,4 +1,4 @@
--- `message::entry_of` meets its contract. The invariant: what is found from k on is what is found. Assumes nothing.
+-- `message::entries::entry_of` meets its contract. The invariant: what is found from k on is what is found. Assumes nothing.
 use borrow.Author.Needs.{needs}
 use Prim.Native.Nat.{ℕ, _-_, _<_, _≤_}
 use mathlib.Core.Bool.{Bool}
@@ -12,8 +12,8 @@ use Rattle.octets.specs.Search.{firstFrom}
 use Rattle.octets.proofs.SearchLaws.{first-more, first-stop, first-end}
 use Rattle.message.specs.Layout.{count, codeAt}
 use Rattle.message.specs.Values.{entryFrom}
-use Rattle.message.proofs.entry_of.Statement.{statement}
-use Rattle.message.proofs.entry_of.Tie as tie
+use Rattle.message.proofs.entries.entry_of.Statement.{statement}
+use Rattle.message.proofs.entries.entry_of.Tie as tie
 
 abbrev Is : List ℕ → ℕ → ℕ → Bool
 Is m code k = eqb (codeAt m k) code

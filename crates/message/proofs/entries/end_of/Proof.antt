@@ -1,4 +1,4 @@
--- `message::end_of` meets its contract. Assumes nothing.
+-- `message::entries::end_of` meets its contract. Assumes nothing.
 use Prim.Native.Nat.{_+_, _<_, _≤_}
 use native.Mathlib.Omega.{arith}
 use borrow.Author.Tests.{lt-ltb, le-ltb}
@@ -6,8 +6,8 @@ use denote.Ref.{now}
 use Rattle.message.specs.Layout.{count}
 use Rattle.message.specs.Values.{endOf}
 use borrow.Author.Needs.{needs}
-use Rattle.message.proofs.end_of.Statement.{statement}
-use Rattle.message.proofs.end_of.Tie as tie
+use Rattle.message.proofs.entries.end_of.Statement.{statement}
+use Rattle.message.proofs.entries.end_of.Tie as tie
 
 returns : tie.Need-returns
 unfolding endOf

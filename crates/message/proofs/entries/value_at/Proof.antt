@@ -1,4 +1,4 @@
--- `message::value_at` meets its contract. Assumes nothing.
+-- `message::entries::value_at` meets its contract. Assumes nothing.
 use Prim.Native.Nat.{_-_, _<_, _≤_}
 use mathlib.Core.Path.{_≡_, refl, _∙_, ap₂}
 use native.Mathlib.Omega.{arith}
@@ -8,8 +8,8 @@ use Rattle.octets.specs.Part.{part}
 use Rattle.message.specs.Layout.{count, offsetAt}
 use Rattle.message.specs.Values.{endOf, valueAt}
 use borrow.Author.Needs.{needs}
-use Rattle.message.proofs.value_at.Statement.{statement}
-use Rattle.message.proofs.value_at.Tie as tie
+use Rattle.message.proofs.entries.value_at.Statement.{statement}
+use Rattle.message.proofs.entries.value_at.Tie as tie
 
 returns : tie.Need-returns
 unfolding valueAt

@@ -1,4 +1,4 @@
--- `message::layout_right` meets its contract. The invariant: what the entries from k on tell is what the layout tells. Assumes nothing.
+-- `message::layout::layout_right` meets its contract. The invariant: what the entries from k on tell is what the layout tells. Assumes nothing.
 use borrow.Author.Needs.{needs}
 use Prim.Native.Nat.{_-_, _<_, _≤_}
 use mathlib.Core.Path.{_≡_, sym, _∙_}
@@ -9,8 +9,8 @@ use denote.Ref.{now}
 use Rattle.octets.specs.Search.{allFrom}
 use Rattle.octets.proofs.SearchLaws.{all-more, all-stop, all-end}
 use Rattle.message.specs.Layout.{count, entryRight, layoutRight}
-use Rattle.message.proofs.layout_right.Statement.{statement}
-use Rattle.message.proofs.layout_right.Tie as tie
+use Rattle.message.proofs.layout.layout_right.Statement.{statement}
+use Rattle.message.proofs.layout.layout_right.Tie as tie
 
 abbrev Inv-loop : tie.InvT-loop
 Inv-loop m longest most known n k₀ k = (n ≡ count m) × (k ≤ n) × (n < 65536) × (allFrom (entryRight known m) k (count m - k) ≡ layoutRight longest most known m)

@@ -1,4 +1,4 @@
--- `message::entry_right` meets its contract. Assumes nothing.
+-- `message::layout::entry_right` meets its contract. Assumes nothing.
 use Prim.Native.Nat.{ℕ, _+_, _-_, _*_, _<_, _≤_}
 use mathlib.Core.Bool.{true, false}
 use mathlib.Core.Path.{_≡_, sym, _∙_, ap, ap₂}
@@ -9,8 +9,8 @@ use lib.ListN.{length, getD}
 use denote.Ref.{now}
 use Rattle.message.specs.Layout.{countSize, entrySize, codeAt, offsetAt, entryRight}
 use borrow.Author.Needs.{needs}
-use Rattle.message.proofs.entry_right.Statement.{statement}
-use Rattle.message.proofs.entry_right.Tie as tie
+use Rattle.message.proofs.layout.entry_right.Statement.{statement}
+use Rattle.message.proofs.layout.entry_right.Tie as tie
 
 -- what is known once the code was looked up, and once the offset was compared with the length
 known : (c : tie.After-knows) → getD (now (c .before .before .before .before .before .args .known)) (codeAt (now (c .before .before .before .before .before .args .m)) (c .before .before .before .before .before .args .k)) false ≡ c .knows .result

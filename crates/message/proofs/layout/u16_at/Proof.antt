@@ -1,9 +1,9 @@
--- `message::u16_at` meets its contract. Assumes nothing.
+-- `message::layout::u16_at` meets its contract. Assumes nothing.
 use native.Mathlib.Omega.{arith}
 use Rattle.message.specs.Layout.{u16At}
 use borrow.Author.Needs.{needs}
-use Rattle.message.proofs.u16_at.Statement.{statement}
-use Rattle.message.proofs.u16_at.Tie as tie
+use Rattle.message.proofs.layout.u16_at.Statement.{statement}
+use Rattle.message.proofs.layout.u16_at.Tie as tie
 
 returns : tie.Need-returns
 unfolding u16At
