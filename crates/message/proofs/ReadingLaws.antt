@@ -11,25 +11,29 @@ use borrow.Author.Tests.{ltb-true, ltb-false, lt-ltb, eqb-true, eqb-false}
 use Rattle.octets.specs.Search.{firstFrom}
 use Rattle.octets.proofs.SearchLaws.{first-passes}
 use Rattle.message.specs.Layout.{count, codeAt}
-use Rattle.message.specs.Values.{entryFrom, valueAt, value, isThere}
+use Rattle.message.specs.Values.{entries, entryFrom, valueAt, value, isThere}
 use Rattle.message.specs.Reading.{Laid, Reached, nextPlace}
-use Rattle.message.proofs.LayoutLaws.{code-known, code-apart, value-filled, missing, value-found}
+use Rattle.message.proofs.LayoutLaws.{entries-all, code-known, code-apart, value-filled, missing, value-found}
+
+entries-most : (m : List ℕ) → entries m ≤ count m
+unfolding entries
+entries-most m = omega arith
 
 -- an element whose code no entry has is missing
 pub absent : (m : List ℕ) (code : ℕ) → ((k : ℕ) → k < count m → codeAt m k ≡ code → ⊥) → value code m ≡ []
 unfolding value entryFrom valueAt
-absent m code nowhere = rw sub-zero (go (ltb found (count m)) refl)
+absent m code nowhere = rw sub-zero (go (ltb found (entries m)) refl)
   where
     f : ℕ → Bool
     f k = eqb (codeAt m k) code
 
     found : ℕ
-    found = firstFrom f 0 (count m)
+    found = firstFrom f 0 (entries m)
 
-    go : (t : Bool) → ltb found (count m) ≡ t → valueAt m found ≡ []
+    go : (t : Bool) → ltb found (entries m) ≡ t → valueAt m found ≡ []
     go true e =
-        let h : found < count m = ltb-true _ _ e in
-        absurd (nowhere found h (eqb-true (codeAt m found) code (first-passes f 0 (count m) (omega arith))))
+        let h : found < entries m = ltb-true _ _ e in
+        absurd (nowhere found (omega (arith, entries-most m)) (eqb-true (codeAt m found) code (first-passes f 0 (entries m) (omega arith))))
     go false e = rw e
 
 -- and one that is not there is missing
@@ -42,6 +46,9 @@ not-there m code e = go (value code m) e
     go (x ∷ xs) h = absurd (omega (arith, ltb-false 0 (length (x ∷ xs)) h))
 
 module _ (m : List ℕ) (laid : Laid m) where
+  pub laid-entries : entries m ≡ count m
+  laid-entries = entries-all (laid .longest) (laid .most) (laid .known) m (laid .right)
+
   -- codes are above 0
   positive : (k : ℕ) → k < count m → 0 < codeAt m k
   positive k h = go (codeAt m k) refl

@@ -1,5 +1,5 @@
 -- Document 01, 'The message': the value of an element.
-use Prim.Native.Nat.{ℕ, zero, suc, _+_, _-_}
+use Prim.Native.Nat.{ℕ, zero, suc, _+_, _-_, _/_, min}
 use mathlib.Core.Bool.{Bool}
 use mathlib.Core.List.{List, [], _++_}
 use lib.ListN.{length}
@@ -7,19 +7,23 @@ use lib.Dec.{ltb, eqb}
 use Rattle.octets.specs.Choice.{choose}
 use Rattle.octets.specs.Search.{firstFrom}
 use Rattle.octets.specs.Part.{part}
-use Rattle.message.specs.Layout.{count, codeAt, offsetAt}
+use Rattle.message.specs.Layout.{countSize, entrySize, count, codeAt, offsetAt}
 
--- the first entry from `from` on with a code; where there is none, n, or `from` if that is past n
+-- the entries that stand whole in the message: all n where the layout is right
+unfoldable pub entries : List ℕ → ℕ
+entries m = min (count m) ((length m - countSize) / entrySize)
+
+-- the first entry from `from` on with a code; where there is none, the number of entries, or `from` if that is past it
 unfoldable pub entryFrom : List ℕ → ℕ → ℕ → ℕ
-entryFrom m code from = firstFrom (λ k. eqb (codeAt m k) code) from (count m - from)
+entryFrom m code from = firstFrom (λ k. eqb (codeAt m k) code) from (entries m - from)
 
 -- a value runs to the next offset, the last one to the end
 unfoldable pub endOf : List ℕ → ℕ → ℕ
-endOf m k = choose (ltb (k + 1) (count m)) (offsetAt m (k + 1)) (length m)
+endOf m k = choose (ltb (k + 1) (entries m)) (offsetAt m (k + 1)) (length m)
 
 -- the value of entry k, nothing where there is no such entry
 unfoldable pub valueAt : List ℕ → ℕ → List ℕ
-valueAt m k = choose (ltb k (count m)) (part m (offsetAt m k) (endOf m k - offsetAt m k)) []
+valueAt m k = choose (ltb k (entries m)) (part m (offsetAt m k) (endOf m k - offsetAt m k)) []
 
 -- the value of the element with a code, nothing where the element is missing
 unfoldable pub value : ℕ → List ℕ → List ℕ

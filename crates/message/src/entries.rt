@@ -1,24 +1,41 @@
 // The entries of a message's header, and their values: plain functions on the bytes and a place, under the reader.
 ghost use mathlib.Core.Path.{_≡_};
-ghost use Prim.Native.Nat.{_+_, _<_, _≤_};
+ghost use Prim.Native.Nat.{_+_, _-_, _*_, _<_, _≤_};
+ghost use lib.ListN.{length};
 ghost use Rattle.octets.specs.Part.{PartOf};
-ghost use Rattle.message.specs.Values.{entryFrom, endOf, valueAt, isThere};
+ghost use Rattle.message.specs.Values.{entries, entryFrom, endOf, valueAt, isThere};
+ghost use Rattle.message.specs.Layout.{countSize, entrySize};
 ghost use Rattle.message.specs.Reading.{Laid, Reached, nextPlace};
 use crate::layout::CODE;
 use crate::layout::COUNT;
 use crate::layout::ENTRY;
-use crate::layout::u16_at;
+use crate::layout::u16_inside;
 use octets::part_of;
 
-// The first entry from `from` on with a code; where there is none the count, or `from` if that is past the count.
+// The entries that stand whole in the message.
+fn entries_of(m: &[u8]) -> usize
+    ensures { λ r. ⌜ (r ≡ entries (now (m .entry))) × (r < 65536) × (entrySize * r ≤ length (now (m .entry)) - countSize) ⌝ }
+{
+    if m.len() < COUNT {
+        return 0;
+    }
+    let n = u16_inside(m, 0);
+    let room = (m.len() - COUNT) / ENTRY;
+    if n < room {
+        return n;
+    }
+    room
+}
+
+// The first entry from `from` on with a code; where there is none the number of entries, or `from` if that is past it.
 pub fn entry_of(m: &[u8], code: u16, from: usize) -> usize
     ensures { λ r. ⌜ r ≡ entryFrom (now (m .entry)) code from ⌝ }
 {
-    let n = u16_at(m, 0);
+    let n = entries_of(m);
     let c = code as usize;
     let mut k = from;
     while k < n {
-        if u16_at(m, COUNT + ENTRY * k) == c {
+        if u16_inside(m, COUNT + ENTRY * k) == c {
             return k;
         }
         k += 1;
@@ -26,13 +43,15 @@ pub fn entry_of(m: &[u8], code: u16, from: usize) -> usize
     k
 }
 
-// Where the value of entry k ends.
-fn end_of(m: &[u8], k: usize) -> usize
-    requires { ⌜ k < 65536 ⌝ }
+// Where the value of entry k, one of n, ends.
+fn end_of(m: &[u8], n: usize, k: usize) -> usize
+    requires { ⌜ n ≡ entries (now m) ⌝ }
+    requires { ⌜ (n < 65536) × (entrySize * n ≤ length (now m) - countSize) ⌝ }
+    requires { ⌜ k < n ⌝ }
     ensures { λ r. ⌜ r ≡ endOf (now (m .entry)) k ⌝ }
 {
-    if k + 1 < u16_at(m, 0) {
-        return u16_at(m, COUNT + ENTRY * (k + 1) + CODE);
+    if k + 1 < n {
+        return u16_inside(m, COUNT + ENTRY * (k + 1) + CODE);
     }
     m.len()
 }
@@ -41,11 +60,12 @@ fn end_of(m: &[u8], k: usize) -> usize
 pub fn value_at<'a>(m: &'a [u8], k: usize) -> &'a [u8]
     ensures { λ r. ⌜ (now r ≡ valueAt (now (m .entry)) k) × PartOf (m .entry) r ⌝ }
 {
-    if u16_at(m, 0) <= k {
+    let n = entries_of(m);
+    if n <= k {
         return &m[..0];
     }
-    let offset = u16_at(m, COUNT + ENTRY * k + CODE);
-    let end = end_of(m, k);
+    let offset = u16_inside(m, COUNT + ENTRY * k + CODE);
+    let end = end_of(m, n, k);
     if end < offset {
         return &m[..0];
     }
@@ -58,10 +78,10 @@ pub fn is_here(m: &[u8], code: u16, at: usize) -> bool
     requires { ⌜ Reached (now m) code at ⌝ }
     ensures { λ r. ⌜ r ≡ isThere code (now (m .entry)) ⌝ }
 {
-    if u16_at(m, 0) <= at {
+    if entries_of(m) <= at {
         return false;
     }
-    u16_at(m, COUNT + ENTRY * at) == code as usize
+    u16_inside(m, COUNT + ENTRY * at) == code as usize
 }
 
 // How far the reader has come where it goes on from an element that is there or not.

@@ -1,10 +1,11 @@
 // The layout of a message: document 01, 'The message', its header of counts and offsets.
 ghost use mathlib.Core.Path.{_≡_};
 ghost use mathlib.Core.Bool.{false};
-ghost use Prim.Native.Nat.{_<_};
-ghost use lib.ListN.{getD};
+ghost use Prim.Native.Nat.{_+_, _<_, _≤_};
+ghost use lib.ListN.{length, getD};
 ghost use Rattle.message.specs.Layout.{u16At, entryRight, layoutRight};
 use octets::read_at;
+use octets::read_le;
 
 // Sizes of the header's parts.
 pub const COUNT: usize = 2;
@@ -18,6 +19,15 @@ pub fn u16_at(m: &[u8], at: usize) -> usize
     ensures { λ r. ⌜ (r ≡ u16At (now (m .entry)) at) × (r < 65536) ⌝ }
 {
     read_at(m, at, 2) as usize
+}
+
+// The same where the two bytes stand inside the message.
+pub fn u16_inside(m: &[u8], at: usize) -> usize
+    requires { ⌜ at + 2 ≤ length (now m) ⌝ }
+    ensures { λ r. ⌜ (r ≡ u16At (now (m .entry)) at) × (r < 65536) ⌝ }
+{
+    let end = at + 2;
+    read_le(&m[at..end]) as usize
 }
 
 // Whether a table of known codes has a code.

@@ -1,4 +1,4 @@
-// A message: its layout, and the value of an element as that part of the message itself.
+// A message: its layout, and the value of an element as that part of the message itself. Document 01, 'The message'.
 mod entries;
 mod layout;
 
@@ -8,12 +8,43 @@ pub use entries::value_at;
 pub use layout::layout_right;
 ghost use mathlib.Core.Path.{_≡_};
 ghost use Rattle.octets.specs.Part.{PartOf};
-ghost use Rattle.message.specs.Values.{value};
+ghost use Rattle.message.specs.Values.{entryFrom, valueAt, value};
 use entries::entry_of;
+
+// The reader of a message: the lent bytes, and how far it has come, an entry of the header. Each function over it takes it apart and
+// calls one on the bytes and a number.
+pub struct Reader<'a> {
+    pub src: &'a [u8],
+    pub at: usize,
+}
+
+// A reader at the first entry of a message.
+pub fn start<'a>(m: &'a [u8]) -> Reader<'a>
+    ensures { λ r. ⌜ (r .src ≡ m .entry) × (r .at ≡ 0) ⌝ }
+{
+    Reader { src: m, at: 0 }
+}
+
+impl<'a> Reader<'a> {
+    // The reader where it has come to the next entry with a code; past the last entry where there is none.
+    pub fn seek(self, code: u16) -> Reader<'a>
+        ensures { λ r. ⌜ (r .src ≡ self .entry .src) × (r .at ≡ entryFrom (now (self .entry .src)) code (self .entry .at)) ⌝ }
+    {
+        let at = entry_of(self.src, code, self.at);
+        Reader { src: self.src, at }
+    }
+
+    // The value of the entry that the reader has come to: that part of the message itself.
+    pub fn value(self) -> &'a [u8]
+        ensures { λ r. ⌜ (now r ≡ valueAt (now (self .entry .src)) (self .entry .at)) × PartOf (self .entry .src) r ⌝ }
+    {
+        value_at(self.src, self.at)
+    }
+}
 
 // The value of the element with a code: that part of the message itself, empty where the element is missing.
 pub fn element<'a>(m: &'a [u8], code: u16) -> &'a [u8]
     ensures { λ r. ⌜ (now r ≡ value code (now (m .entry))) × PartOf (m .entry) r ⌝ }
 {
-    value_at(m, entry_of(m, code, 0))
+    start(m).seek(code).value()
 }

@@ -1,22 +1,22 @@
 -- Laws of specs/Lei.antt: the remainder of the whole number follows from the remainder of what was read before. Assumes nothing.
-use Prim.Native.Nat.{ℕ, _+_, _-_, _*_, _/_, _%_, _<_, _≤_}
+use Prim.Native.Nat.{ℕ, zero, suc, _+_, _-_, _*_, _/_, _%_, _^_, _<_, _≤_}
 use Prim.Native.Char.{code}
 use mathlib.Core.Path.{_≡_, refl, sym, ap, _∙_}
 use mathlib.Core.List.{List, [], _∷_, _++_}
-use mathlib.Core.Bool.{Bool, true, false}
+use mathlib.Core.Bool.{true}
 use native.Mathlib.Omega.{arith}
-use native.Mathlib.Nat.{add-mul-mod-self-right, div-add-mod', add-mul, mul-right-comm, add-assoc}
+use native.Mathlib.Nat.{add-mul-mod-self-right, div-add-mod', add-mul, mul-right-comm, mul-le-mul-left}
 use native.Mathlib.Numerals.{add-one}
 use borrow.Author.Tests.{lt-leb, leb-true}
 use lib.Dec.{leb}
-use lib.ListN.{length, getD, take}
-use lib.Seq.{take-suc}
-use Rattle.octets.specs.Choice.{choose}
+use lib.ListN.{length, getD, take, drop}
+use lib.Seq.{take-suc, take-add}
 use Rattle.octets.proofs.ChoiceLaws.{both-first}
+use Rattle.octets.proofs.NumberLaws.{byte-more}
 use Rattle.values.specs.Limits.{leiModulus}
 use Rattle.values.specs.Run.{inClass}
 use Rattle.values.specs.declared.run.Class.the-variants.{Capital}
-use Rattle.values.specs.Lei.{grow, spell}
+use Rattle.values.specs.Lei.{weight, number, grow, spell}
 
 -- a number read on by digits of weight w: the remainder decides
 step-mod : (w n d : ℕ) → (n % leiModulus * w + d) % leiModulus ≡ (n * w + d) % leiModulus
@@ -29,32 +29,51 @@ step-mod w n d =
     sym (add-mul-mod-self-right (r * w + d) (q * w) leiModulus) ∙ ap (λ (m : ℕ). m % leiModulus) e
 
 -- one character more: the remainder follows from the remainder
-pub grow-mod : (n b : ℕ) → grow (n % leiModulus) b % leiModulus ≡ grow n b % leiModulus
+grow-mod : (n b : ℕ) → grow (n % leiModulus) b % leiModulus ≡ grow n b % leiModulus
 unfolding grow
-grow-mod n b = go (inClass Capital b)
-  where
-    go : (t : Bool) → choose t (n % leiModulus * 100 + 10 + (b - code "A")) (n % leiModulus * 10 + (b - code "0")) % leiModulus ≡ choose t (n * 100 + 10 + (b - code "A")) (n * 10 + (b - code "0")) % leiModulus
-    go true = rw (add-assoc, add-assoc) (step-mod 100 n (10 + (b - code "A")))
-    go false = step-mod 10 n (b - code "0")
+grow-mod n b = step-mod (weight b) n (number b)
 
-spell-snoc : (n : ℕ) (v : List ℕ) (b : ℕ) → spell n (v ++ (b ∷ [])) ≡ grow (spell n v) b
+-- and so do more of them
+pub spell-mod : (v : List ℕ) (n m : ℕ) → n % leiModulus ≡ m % leiModulus → spell n v % leiModulus ≡ spell m v % leiModulus
 unfolding spell
-spell-snoc n [] b = refl
-spell-snoc n (x ∷ v) b = spell-snoc (grow n x) v b
+spell-mod [] n m e = e
+spell-mod (b ∷ v) n m e = spell-mod v (grow n b) (grow m b) (sym (grow-mod n b) ∙ ap (λ (r : ℕ). grow r b % leiModulus) e ∙ grow-mod m b)
 
--- the remainder after one character more of a prefix is that of the number which the longer prefix spells
-pub prefix-mod : (v : List ℕ) (k : ℕ) → k < length v → grow (spell 0 (take k v) % leiModulus) (getD v k 0) % leiModulus ≡ spell 0 (take (k + 1) v) % leiModulus
-prefix-mod v k h =
-    grow-mod (spell 0 (take k v)) (getD v k 0)
-    ∙ ap (λ (n : ℕ). n % leiModulus) (sym (spell-snoc 0 (take k v) (getD v k 0)) ∙ ap (spell 0) (sym (rw (add-one k) (take-suc v k 0 h))))
+pub spell-append : (n : ℕ) (u v : List ℕ) → spell n (u ++ v) ≡ spell (spell n u) v
+unfolding spell
+spell-append n [] v = refl
+spell-append n (b ∷ u) v = spell-append (grow n b) u v
+
+-- a prefix with the next characters, as many as there are
+take-part : (n : ℕ) (xs : List ℕ) → take (length (take n xs)) xs ≡ take n xs
+take-part zero xs = refl
+take-part (suc n) [] = refl
+take-part (suc n) (x ∷ xs) = ap (λ (ys : List ℕ). x ∷ ys) (take-part n xs)
+
+pub take-more : (k n : ℕ) (v part : List ℕ) → part ≡ take n (drop k v) → take (k + length part) v ≡ take k v ++ part
+take-more k n v part e = rw e (take-add k (length (take n (drop k v))) v ∙ ap (λ (r : List ℕ). take k v ++ r) (take-part n (drop k v)))
+
+-- the number that a prefix spells, read on by the next character
+pub spell-next : (n : ℕ) (v : List ℕ) (k : ℕ) → k < length v → grow (spell n (take k v)) (getD v k 0) ≡ spell n (take (k + 1) v)
+unfolding spell
+spell-next n v k h =
+    let more : take (k + 1) v ≡ take k v ++ (getD v k 0 ∷ []) = rw (add-one k) (take-suc v k 0 h) in
+    sym (ap (spell n) more ∙ spell-append n (take k v) (getD v k 0 ∷ []))
+
+-- one character more makes a number longer by a byte at most
+pub grow-byte : (k n w d : ℕ) → n < 256 ^ k → w ≤ 256 → d < 256 → n * w + d < 256 ^ (k + 1)
+grow-byte k n w d h u l =
+    let m : n * w ≤ n * 256 = mul-le-mul-left n u in
+    let b : n * 256 + d < 256 ^ suc k = byte-more k n d h l in
+    rw (add-one k) (omega arith)
 
 -- a capital stands above the digits
 pub capital-high : (b : ℕ) → inClass Capital b ≡ true → code "A" ≤ b
 capital-high b e = leb-true (code "A") b (both-first (leb (code "A") b) _ e)
 
 -- below the digits nothing is a capital, and counts 0
-pub grow-low : (n b : ℕ) → b < code "0" → grow n b ≡ n * 10
-unfolding grow
-grow-low n b h =
+pub number-low : (b : ℕ) → b < code "0" → number b ≡ 0
+unfolding number
+number-low b h =
     let l : b < code "A" = omega arith in
     rw (lt-leb (code "A") b l) (omega arith)

@@ -10,9 +10,16 @@ use Rattle.values.specs.Limits.{leiBody, leiCheck, leiModulus}
 use Rattle.values.specs.Run.{inClass, runOf}
 use Rattle.values.specs.declared.run.Class.the-variants.{Digit, Capital, CapitalOrDigit}
 
--- a number read on by one character: A to Z are read as 10 to 35, two digits; any other character is one digit
+-- A to Z are read as 10 to 35, two digits; any other character is one digit
+unfoldable pub weight : ℕ → ℕ
+weight b = choose (inClass Capital b) 100 10
+
+unfoldable pub number : ℕ → ℕ
+number b = choose (inClass Capital b) (10 + (b - code "A")) (b - code "0")
+
+-- a number read on by one character
 unfoldable pub grow : ℕ → ℕ → ℕ
-grow n b = choose (inClass Capital b) (n * 100 + 10 + (b - code "A")) (n * 10 + (b - code "0"))
+grow n b = n * weight b + number b
 
 -- the whole number that a text spells, read on from n
 unfoldable pub spell : ℕ → List ℕ → ℕ

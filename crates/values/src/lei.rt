@@ -1,40 +1,68 @@
 // Legal entity identifiers (ISO 17442).
 ghost use mathlib.Core.Path.{_≡_};
-ghost use Prim.Native.Nat.{_<_, _%_};
+ghost use Prim.Native.Nat.{_<_, _≤_, _%_};
+ghost use lib.ListN.{length};
 ghost use Rattle.values.specs.Limits.{leiModulus};
-ghost use Rattle.values.specs.Lei.{grow, spell, isLei};
+ghost use Rattle.values.specs.Lei.{weight, number, spell, isLei};
 use crate::limits::LEI_BODY;
 use crate::limits::LEI_CHECK;
 use crate::limits::LEI_MODULUS;
 use crate::run::Class;
 use crate::run::in_class;
 use crate::run::run_of;
+use octets::part_of;
 
-// The remainder of a number that is read on by one character, from the remainder before.
-fn grown(r: u64, b: u8) -> u64
-    requires { ⌜ r < leiModulus ⌝ }
-    ensures { λ q. ⌜ (q ≡ grow r b % leiModulus) × (q < leiModulus) ⌝ }
+// So many characters can be read on in 64 bits.
+const AT_A_TIME: usize = 7;
+
+// A to Z are read as 10 to 35, two digits; any other character is one digit.
+fn weight_of(b: u8) -> u64
+    ensures { λ r. ⌜ (r ≡ weight b) × (r ≤ 100) ⌝ }
+{
+    if in_class(Class::Capital, b) {
+        return 100;
+    }
+    10
+}
+
+fn number_of(b: u8) -> u64
+    ensures { λ r. ⌜ (r ≡ number b) × (r < 256) ⌝ }
 {
     if b < b'0' {
-        return r * 10 % LEI_MODULUS;
+        return 0;
     }
     if in_class(Class::Capital, b) {
         let c = b - b'A';
-        return (r * 100 + 10 + c as u64) % LEI_MODULUS;
+        return 10 + c as u64;
     }
     let d = b - b'0';
-    (r * 10 + d as u64) % LEI_MODULUS
+    d as u64
 }
 
-// The remainder of the whole number that a value spells, kept while reading.
+// A remainder read on by a few characters, so few that the number has room.
+fn read_on(n: u64, v: &[u8]) -> u64
+    requires { ⌜ (n < 256) × (length (now v) ≤ 7) ⌝ }
+    ensures { λ r. ⌜ r ≡ spell n (now (v .entry)) ⌝ }
+{
+    let mut r = n;
+    let mut k: usize = 0;
+    while k < v.len() {
+        r = r * weight_of(v[k]) + number_of(v[k]);
+        k += 1;
+    }
+    r
+}
+
+// The remainder of the whole number that a value spells, a few characters at a time.
 fn spelled(v: &[u8]) -> u64
     ensures { λ r. ⌜ r ≡ spell 0 (now (v .entry)) % leiModulus ⌝ }
 {
     let mut r: u64 = 0;
     let mut k: usize = 0;
     while k < v.len() {
-        r = grown(r, v[k]);
-        k += 1;
+        let few = part_of(v, k, AT_A_TIME);
+        r = read_on(r, few) % LEI_MODULUS;
+        k += few.len();
     }
     r
 }

@@ -5,8 +5,8 @@ use native.Mathlib.Omega.{arith}
 use borrow.Author.Tests.{lt-ltb, le-ltb}
 use denote.Ref.{now}
 use Rattle.octets.specs.Part.{part}
-use Rattle.message.specs.Layout.{count, offsetAt}
-use Rattle.message.specs.Values.{endOf, valueAt}
+use Rattle.message.specs.Layout.{offsetAt}
+use Rattle.message.specs.Values.{entries, endOf, valueAt}
 use borrow.Author.Needs.{needs}
 use Rattle.message.proofs.entries.value_at.Statement.{statement}
 use Rattle.message.proofs.entries.value_at.Tie as tie
@@ -15,7 +15,7 @@ returns : tie.Need-returns
 unfolding valueAt
 returns c =
     let a = c .before .before .before .before .args in
-    let h : count (now (a .m)) ≤ a .k = omega arith in
+    let h : entries (now (a .m)) ≤ a .k = omega arith in
     (rw (le-ltb _ _ h), record { from = 0; block = refl; place = search needs; within = search needs })
 
 returns-2 : tie.Need-returns-2
@@ -23,7 +23,7 @@ unfolding valueAt
 returns-2 c =
     let a = c .before .before .before .before .before .before .before .args in
     let m = now (a .m) in
-    let h : a .k < count m = omega arith in
+    let h : a .k < entries m = omega arith in
     let z : endOf m (a .k) - offsetAt m (a .k) ≡ 0 = omega arith in
     (rw (lt-ltb _ _ h, z), record { from = 0; block = refl; place = search needs; within = search needs })
 
@@ -32,8 +32,8 @@ unfolding valueAt
 returns-3 c =
     let a = c .before .before .before .before .before .before .before .args in
     let m = now (a .m) in
-    let h : a .k < count m = omega arith in
-    let from = c .before .before .before .u16-at2 .ensures .0 in
+    let h : a .k < entries m = omega arith in
+    let from = c .before .before .before .u16-inside .ensures .0 in
     let to = c .before .before .end-of .ensures in
     (rw (lt-ltb _ _ h) (c .part-of .ensures .0 ∙ ap₂ (part m) from (ap₂ _-_ to from)), c .part-of .ensures .1)
 

@@ -1,0 +1,149 @@
+//! What each line submits, and to a ledger of how many rows.
+
+use crate::faults;
+use crate::ledgers::{put_header_back, put_row_back, Ledger};
+use crate::messages::{sound, sound_new};
+use crate::mixed::{Mixed, Sent};
+use crate::utis::Shape;
+use compare::random::Random;
+use sdr::{ACCEPTED, ACTION_WRONG, DATES_DISORDERED, LARGEST_CAPACITY, LAYOUT_WRONG, NOT_ADMITTED};
+
+/// The UTIs of the lines' ledgers.
+pub const SHAPE: Shape = Shape::MixedLengths;
+/// The rows in use that every kind is tried with.
+pub const ROWS: [usize; 4] = [0, 400, 10_000, LARGEST_CAPACITY];
+/// One message in so many about a live swap ports it.
+const PORTING: usize = 20;
+
+/// What is put back after a submission, so that the next one meets the same
+/// ledger.
+#[derive(Clone, Copy)]
+pub enum PutBack {
+    Nothing,
+    Header,
+    HeaderAndRow(usize),
+}
+
+impl PutBack {
+    /// Copies it from a saved ledger.
+    pub fn copy(self, ledger: &mut [u8], saved: &[u8]) {
+        match self {
+            PutBack::Nothing => {}
+            PutBack::Header => put_header_back(ledger, saved),
+            PutBack::HeaderAndRow(place) => {
+                put_header_back(ledger, saved);
+                put_row_back(ledger, saved, place);
+            }
+        }
+    }
+}
+
+/// A message with what is due for it.
+pub struct Case {
+    pub message: Vec<u8>,
+    pub verdict: u8,
+    pub put_back: PutBack,
+}
+
+#[derive(Clone, Copy, PartialEq, Eq)]
+pub enum Kind {
+    AcceptedNew,
+    LayoutWrong,
+    UnknownAction,
+    Disordered,
+    KnownSwap,
+    TermLast,
+    MixedDay,
+}
+
+impl Kind {
+    pub const ALL: [Kind; 7] = [
+        Kind::AcceptedNew,
+        Kind::LayoutWrong,
+        Kind::UnknownAction,
+        Kind::Disordered,
+        Kind::KnownSwap,
+        Kind::TermLast,
+        Kind::MixedDay,
+    ];
+
+    pub fn name(self) -> &'static str {
+        match self {
+            Kind::AcceptedNew => "NEWT accepted",
+            Kind::LayoutWrong => "layout wrong (verdict 5)",
+            Kind::UnknownAction => "action unknown (verdict 6)",
+            Kind::Disordered => "dates disordered (verdict 13)",
+            Kind::KnownSwap => "NEWT of the last row's swap (verdict 15)",
+            Kind::TermLast => "TERM of the last row accepted",
+            Kind::MixedDay => "mixed day",
+        }
+    }
+
+    /// The rows in use for one of the sizes, or none where the kind asks for a
+    /// known swap and there is none. Where a NEWT is accepted one row stays free.
+    pub fn rows(self, size: usize) -> Option<usize> {
+        match self {
+            Kind::KnownSwap | Kind::TermLast | Kind::MixedDay if size == 0 => None,
+            Kind::AcceptedNew | Kind::MixedDay => Some(size.min(LARGEST_CAPACITY - 1)),
+            _ => Some(size),
+        }
+    }
+
+    /// So many messages about the swaps of this ledger.
+    pub fn cases(self, ledger: &Ledger, count: usize) -> Vec<Case> {
+        let random = &mut Random::new(2);
+        let last = ledger.rows().saturating_sub(1);
+        let unknown = |number: usize| SHAPE.uti(ledger.rows() + number);
+        match self {
+            Kind::AcceptedNew => each(count, ACCEPTED, PutBack::Header, |number| {
+                sound_new(random, &unknown(number)).encode()
+            }),
+            Kind::LayoutWrong => each(count, LAYOUT_WRONG, PutBack::Nothing, |number| {
+                faults::wrong_layout(number, &sound_new(random, &unknown(number)))
+            }),
+            Kind::UnknownAction => each(count, ACTION_WRONG, PutBack::Nothing, |number| {
+                faults::unknown_action(number, &sound_new(random, &unknown(number))).encode()
+            }),
+            Kind::Disordered => each(count, DATES_DISORDERED, PutBack::Nothing, |number| {
+                faults::disordered(number, &sound_new(random, &unknown(number))).encode()
+            }),
+            Kind::KnownSwap => each(count, NOT_ADMITTED, PutBack::Nothing, |_| {
+                sound_new(random, &ledger.uti(last)).encode()
+            }),
+            Kind::TermLast => each(count, ACCEPTED, PutBack::HeaderAndRow(last), |_| {
+                sound(random, "TERM", &ledger.uti(last), "").encode()
+            }),
+            Kind::MixedDay => mixed(ledger, count),
+        }
+    }
+}
+
+/// So many messages for which the same is due.
+fn each(
+    count: usize,
+    verdict: u8,
+    put_back: PutBack,
+    message: impl FnMut(usize) -> Vec<u8>,
+) -> Vec<Case> {
+    let case = |message| Case {
+        message,
+        verdict,
+        put_back,
+    };
+    (0..count).map(message).map(case).collect()
+}
+
+/// A mixed day on which every message meets the same ledger.
+fn mixed(ledger: &Ledger, count: usize) -> Vec<Case> {
+    let mut day = Mixed::about(ledger, SHAPE, PORTING);
+    let case = |sent: Sent| Case {
+        put_back: match (sent.verdict, sent.place) {
+            (ACCEPTED, Some(place)) => PutBack::HeaderAndRow(place),
+            (ACCEPTED, None) => PutBack::Header,
+            _ => PutBack::Nothing,
+        },
+        message: sent.message,
+        verdict: sent.verdict,
+    };
+    (0..count).map(|_| case(day.next(ledger))).collect()
+}

@@ -1,0 +1,141 @@
+//! Ledgers with many rows, put together without submitting every swap.
+
+use crate::messages::sound_new;
+use crate::utis::Shape;
+use compare::random::Random;
+use sdr::{
+    ledger_size, ACCEPTED, CLOSED, ERRORED, HEADER_SIZE, LARGEST_CAPACITY, LINE_SIZE, LIVE, PORTED,
+    ROW_SIZE,
+};
+
+/// All five caps.
+pub const CAPS: [u64; 5] = [250_000_000; 5];
+/// So many different terms are dealt out over the rows.
+const PATTERNS: usize = 64;
+
+/// Where a row keeps its UTI and its identifier.
+const UTI_SIZE: usize = 52;
+const UTI_AT: usize = 2;
+const IDENTIFIER_AT: usize = 54;
+/// The execution time opens the masked terms.
+const EXECUTION_AT: usize = 62;
+const TIME_SIZE: usize = 20;
+
+/// A ledger's bytes.
+pub struct Ledger {
+    pub bytes: Vec<u8>,
+}
+
+impl Ledger {
+    /// A ledger without rows.
+    pub fn opened(capacity: usize) -> Ledger {
+        let mut bytes = vec![0; ledger_size(capacity)];
+        assert_eq!(checker::open(&mut bytes, &CAPS), ACCEPTED);
+        Ledger { bytes }
+    }
+
+    /// A ledger with so many rows in use, and room for one more unless that is
+    /// above the largest capacity. The last row is live.
+    pub fn with_rows(rows: usize, shape: Shape) -> Ledger {
+        let mut ledger = Ledger::opened((rows + 1).min(LARGEST_CAPACITY));
+        let patterns = patterns();
+        for place in 0..rows {
+            let row = row_mut(&mut ledger.bytes, place);
+            row.copy_from_slice(&patterns[place % PATTERNS]);
+            name_row(row, &shape.uti(place), place as u64 + 1);
+            row[0] = status_at(place, rows);
+        }
+        ledger.bytes[0..4].copy_from_slice(&(rows as u32).to_le_bytes());
+        ledger.bytes[8..16].copy_from_slice(&(rows as u64 + 1).to_le_bytes());
+        ledger
+    }
+
+    /// The rows in use.
+    pub fn rows(&self) -> usize {
+        number(&self.bytes, 0)
+    }
+
+    /// The rows that there is room for.
+    pub fn capacity(&self) -> usize {
+        number(&self.bytes, 60)
+    }
+
+    /// A row's bytes.
+    pub fn row(&self, place: usize) -> &[u8] {
+        &self.bytes[ledger_size(place)..][..ROW_SIZE]
+    }
+
+    pub fn status(&self, place: usize) -> u8 {
+        self.row(place)[0]
+    }
+
+    pub fn uti(&self, place: usize) -> String {
+        let row = self.row(place);
+        text(&row[UTI_AT..][..row[1].into()])
+    }
+
+    pub fn execution_time(&self, place: usize) -> String {
+        text(&self.row(place)[EXECUTION_AT..][..TIME_SIZE])
+    }
+}
+
+/// Most swaps are live, some are closed, few errored or ported.
+fn status_at(place: usize, rows: usize) -> u8 {
+    match place % 20 {
+        _ if place + 1 == rows => LIVE,
+        15..=17 => CLOSED,
+        18 => ERRORED,
+        19 => PORTED,
+        _ => LIVE,
+    }
+}
+
+/// Rows as the checker writes them for sound NEWTs.
+fn patterns() -> Vec<Vec<u8>> {
+    let random = &mut Random::new(1);
+    (0..PATTERNS)
+        .map(|number| pattern(random, number))
+        .collect()
+}
+
+fn pattern(random: &mut Random, number: usize) -> Vec<u8> {
+    let mut ledger = Ledger::opened(1);
+    let message = sound_new(random, &Shape::SharedPrefix.uti(number)).encode();
+    let answer = checker::submit(&mut ledger.bytes, &mut [0; LINE_SIZE], &message);
+    assert_eq!(answer.verdict, ACCEPTED);
+    ledger.row(0).to_vec()
+}
+
+fn name_row(row: &mut [u8], uti: &str, identifier: u64) {
+    row[1] = uti.len() as u8;
+    row[UTI_AT..][..UTI_SIZE].fill(b' ');
+    row[UTI_AT..][..uti.len()].copy_from_slice(uti.as_bytes());
+    row[IDENTIFIER_AT..][..8].copy_from_slice(&identifier.to_le_bytes());
+}
+
+fn row_mut(bytes: &mut [u8], place: usize) -> &mut [u8] {
+    &mut bytes[ledger_size(place)..][..ROW_SIZE]
+}
+
+/// Puts the header of a saved copy back.
+pub fn put_header_back(ledger: &mut [u8], saved: &[u8]) {
+    ledger[..HEADER_SIZE].copy_from_slice(&saved[..HEADER_SIZE]);
+}
+
+/// Puts one row of a saved copy back.
+pub fn put_row_back(ledger: &mut [u8], saved: &[u8], place: usize) {
+    let start = ledger_size(place);
+    row_mut(ledger, place).copy_from_slice(&saved[start..start + ROW_SIZE]);
+}
+
+/// A u32 of the header.
+fn number(bytes: &[u8], at: usize) -> usize {
+    bytes[at..at + 4]
+        .iter()
+        .rev()
+        .fold(0, |number, &byte| 256 * number + usize::from(byte))
+}
+
+fn text(bytes: &[u8]) -> String {
+    String::from_utf8_lossy(bytes).into_owned()
+}
