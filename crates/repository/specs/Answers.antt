@@ -45,6 +45,7 @@ statusUnit = 2 ^ 16
 abbrev pub identifierUnit : ℕ
 identifierUnit = 2 ^ 24
 
+-- the number carries identifiers below this
 abbrev pub carriedLimit : ℕ
 carriedLimit = 2 ^ 40
 
