@@ -13,10 +13,22 @@ use lib.Seq.{take-all, drop-drop}
 use borrow.Author.Tests.{ltb-true, ltb-false, lt-ltb, le-ltb, eqb-true, eq-eqb, ne-eqb}
 use Rattle.octets.specs.Choice.{choose, both}
 use Rattle.octets.specs.Search.{firstFrom, all}
-use Rattle.octets.proofs.ChoiceLaws.{both-first, both-second}
+use Rattle.octets.proofs.ChoiceLaws.{both-first, both-second, both-none}
 use Rattle.octets.proofs.SearchLaws.{all-at, first-le, first-passes}
 use Rattle.message.specs.Layout.{countSize, entrySize, count, codeAt, offsetAt, headerSize, entryRight, layoutRight}
 use Rattle.message.specs.Values.{entries, entryFrom, endOf, valueAt, value, valuesFrom}
+
+-- a first entry without room behind the header is wrong
+pub header-cut : (known : List Bool) (m : List ℕ) → length m ≤ headerSize m → entryRight known m 0 ≡ false
+unfolding entryRight
+header-cut known m h = both-none (getD known (codeAt m 0) false) _ (go (ltb (offsetAt m 0) (length m)) refl)
+  where
+    go : (t : Bool) → ltb (offsetAt m 0) (length m) ≡ t → both t (eqb (offsetAt m 0) (headerSize m)) ≡ false
+    go true e =
+        let l : offsetAt m 0 < length m = ltb-true _ _ e in
+        let other : offsetAt m 0 ≡ headerSize m → ⊥ = omega arith in
+        ne-eqb _ _ other
+    go false e = refl
 
 module _ (longest most : ℕ) (known : List Bool) (m : List ℕ) (right : layoutRight longest most known m ≡ true) where
   -- every entry is right

@@ -13,7 +13,7 @@ use crate::layout::u16_inside;
 use octets::part_of;
 
 // The entries that stand whole in the message.
-fn entries_of(m: &[u8]) -> usize
+pub fn entries_of(m: &[u8]) -> usize
     ensures { λ r. ⌜ (r ≡ entries (now (m .entry))) × (r < 65536) × (entrySize * r ≤ length (now (m .entry)) - countSize) ⌝ }
 {
     if m.len() < COUNT {
@@ -72,13 +72,15 @@ pub fn value_at<'a>(m: &'a [u8], k: usize) -> &'a [u8]
     part_of(m, offset, end - offset)
 }
 
-// Whether an element is there, for a reader that has come to its code.
-pub fn is_here(m: &[u8], code: u16, at: usize) -> bool
+// Whether an element is there, for a reader that has come to its code among the n entries.
+pub fn is_here(m: &[u8], n: usize, code: u16, at: usize) -> bool
+    requires { ⌜ n ≡ entries (now m) ⌝ }
+    requires { ⌜ (n < 65536) × (entrySize * n ≤ length (now m) - countSize) ⌝ }
     requires { ⌜ Laid (now m) ⌝ }
     requires { ⌜ Reached (now m) code at ⌝ }
     ensures { λ r. ⌜ r ≡ isThere code (now (m .entry)) ⌝ }
 {
-    if entries_of(m) <= at {
+    if n <= at {
         return false;
     }
     u16_inside(m, COUNT + ENTRY * at) == code as usize

@@ -1,9 +1,9 @@
 // The layout of a message: document 01, 'The message', its header of counts and offsets.
 ghost use mathlib.Core.Path.{_≡_};
 ghost use mathlib.Core.Bool.{false};
-ghost use Prim.Native.Nat.{_+_, _<_, _≤_};
+ghost use Prim.Native.Nat.{_+_, _*_, _<_, _≤_};
 ghost use lib.ListN.{length, getD};
-ghost use Rattle.message.specs.Layout.{u16At, entryRight, layoutRight};
+ghost use Rattle.message.specs.Layout.{countSize, entrySize, u16At, entryRight, layoutRight};
 use octets::read_at;
 use octets::read_le;
 
@@ -40,13 +40,13 @@ fn knows(known: &[bool], code: usize) -> bool
     false
 }
 
-// Whether entry k is right.
+// Whether entry k, which stands whole in the message, is right.
 fn entry_right(m: &[u8], known: &[bool], k: usize) -> bool
-    requires { ⌜ k < 65536 ⌝ }
+    requires { ⌜ (k < 65536) × (countSize + entrySize * (k + 1) ≤ length (now m)) ⌝ }
     ensures { λ r. ⌜ r ≡ entryRight (now (known .entry)) (now (m .entry)) k ⌝ }
 {
-    let code = u16_at(m, COUNT + ENTRY * k);
-    let offset = u16_at(m, COUNT + ENTRY * k + CODE);
+    let code = u16_inside(m, COUNT + ENTRY * k);
+    let offset = u16_inside(m, COUNT + ENTRY * k + CODE);
     if !knows(known, code) {
         return false;
     }
@@ -54,12 +54,12 @@ fn entry_right(m: &[u8], known: &[bool], k: usize) -> bool
         return false;
     }
     if k == 0 {
-        return offset == COUNT + ENTRY * u16_at(m, 0);
+        return offset == COUNT + ENTRY * u16_inside(m, 0);
     }
-    if code <= u16_at(m, COUNT + ENTRY * (k - 1)) {
+    if code <= u16_inside(m, COUNT + ENTRY * (k - 1)) {
         return false;
     }
-    u16_at(m, COUNT + ENTRY * (k - 1) + CODE) < offset
+    u16_inside(m, COUNT + ENTRY * (k - 1) + CODE) < offset
 }
 
 // Whether the layout is right: at most `longest` bytes, at most `most` entries, each of them right.
@@ -78,6 +78,9 @@ pub fn layout_right(m: &[u8], longest: usize, most: usize, known: &[bool]) -> bo
     }
     if n == 0 {
         return m.len() == COUNT;
+    }
+    if m.len() <= COUNT + ENTRY * n {
+        return false;
     }
     let mut k: usize = 0;
     while k < n {

@@ -2,6 +2,7 @@
 mod entries;
 mod layout;
 
+pub use entries::entries_of;
 pub use entries::is_here;
 pub use entries::next_place;
 pub use entries::value_at;

@@ -1,14 +1,18 @@
 -- Laws of specs/Number.antt. Assumes nothing.
 use Prim.Native.Char.{code}
-use mathlib.Core.Path.{_≡_, refl, sym, ap, _∙_}
+use mathlib.Core.Path.{_≡_, refl, sym, ap, ap₂, _∙_}
+use mathlib.Core.Bool.{Bool, true, false}
 use mathlib.Core.List.{List, [], _∷_, _++_, append-assoc}
 use Prim.Native.Nat.{ℕ, zero, suc, _+_, _-_, _*_, _/_, _%_, _^_, _≤_, _<_}
 use native.Mathlib.Nat.{pow-le-pow-right, pow-suc, not-suc-le-zero, div-lt-iff-lt-mul}
 use native.Mathlib.Numerals.{add-one}
 use native.Mathlib.Omega.{arith}
-use lib.ListN.{length, take, drop, set, length-append}
-use lib.Seq.{set-split, drop-at, length-take-le}
+use lib.ListN.{length, getD, take, drop, set, length-append, length-take, List·getD-eq-default}
+use lib.Dec.{ltb}
+use borrow.Author.Tests.{ltb-true, ltb-false}
+use lib.Seq.{set-split, drop-at, length-take-le, getD-take, getD-drop}
 use lib.Arith.{digits-lt}
+use Rattle.octets.specs.Part.{part}
 use Rattle.octets.specs.Number.{fromLe, toLe, digits}
 
 -- ---- little-endian
@@ -34,6 +38,30 @@ fromLe-toLe zero v h = omega arith
 fromLe-toLe (suc n) v h =
     let l : v / 256 < 256 ^ n = div-lt-iff-lt-mul {k = 256} (omega arith) .1 (rw pow-suc at h) in
     rw (fromLe-toLe n (v / 256) l) (omega arith)
+
+-- bytes that stand for the same number are the same, where there are as many of them
+abbrev pub Bytes : List ℕ → Type 0
+Bytes xs = (k : ℕ) → getD xs k 0 < 256
+
+pub fromLe-same : (xs ys : List ℕ) → length xs ≡ length ys → Bytes xs → Bytes ys → fromLe xs ≡ fromLe ys → xs ≡ ys
+unfolding fromLe
+fromLe-same [] [] l f g e = refl
+fromLe-same [] (y ∷ ys) l f g e = absurd (omega arith)
+fromLe-same (x ∷ xs) [] l f g e = absurd (omega arith)
+fromLe-same (x ∷ xs) (y ∷ ys) l f g e =
+    let p : x < 256 = f 0 in
+    let q : y < 256 = g 0 in
+    let rest : fromLe xs ≡ fromLe ys = omega arith in
+    ap₂ _∷_ (omega arith) (fromLe-same xs ys (omega arith) (λ k. f (suc k)) (λ k. g (suc k)) rest)
+
+pub part-bytes : (xs : List ℕ) (at n : ℕ) → Bytes xs → Bytes (part xs at n)
+part-bytes xs at n f k = go (ltb k n) refl
+  where
+    go : (t : Bool) → ltb k n ≡ t → getD (part xs at n) k 0 < 256
+    go true e = rw (getD-take n (drop at xs) k 0 (ltb-true k n e), getD-drop at xs k 0) (f (at + k))
+    go false e =
+        let past : length (part xs at n) ≤ k = omega (arith, length-take n (drop at xs), ltb-false k n e) in
+        rw (List·getD-eq-default (part xs at n) 0 past) (omega arith)
 
 -- ---- decimal digits
 

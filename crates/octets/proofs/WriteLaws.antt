@@ -1,9 +1,7 @@
 -- Laws for a loop that writes every byte of a slice, or reads it from one end to the other. Assumes nothing.
-use mathlib.Core.Path.{_≡_, sym, _∙_, subst}
+use mathlib.Core.Path.{_≡_, sym, _∙_}
 use mathlib.Core.List.{List, [], _∷_, _++_, append-nil}
 use Prim.Native.Nat.{ℕ, suc, _+_, _-_, _≤_, _<_}
-use mathlib.Core.Logic.{⊎-elim}
-use native.Mathlib.Nat.{eq-or-lt-of-le}
 use native.Mathlib.Numerals.{add-one}
 use native.Mathlib.Omega.{arith}
 use lib.ListN.{length, take, drop, getD, set}
@@ -23,8 +21,3 @@ finish d r whole i h e f = sym (take-all i d h) ∙ sym (append-nil (take i d)) 
 
 pub drop-next : (s : List ℕ) (i : ℕ) → i < length s → drop i s ≡ getD s i 0 ∷ drop (i + 1) s
 drop-next s i h = rw add-one (drop-cons s i 0 h)
-
--- a loop that counts down: what holds from i on and at i - 1 holds from i - 1 on
-pub from-more : (P : ℕ → Type 0) (i n : ℕ) → ((k : ℕ) → i ≤ k → k < n → P k) → P (i - 1) → (k : ℕ) → i - 1 ≤ k → k < n → P k
-from-more P i n all here k h l =
-    ⊎-elim (λ e. subst P e here) (λ lt. all k (omega arith) l) (eq-or-lt-of-le h)

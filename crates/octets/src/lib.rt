@@ -2,12 +2,15 @@
 // A function on a whole slice has the loop; the one with `_at` lends it the part that is meant.
 ghost use mathlib.Core.Path.{_≡_};
 ghost use Prim.Native.Nat.{_+_, _-_, _*_, _^_, _<_, _≤_, min};
-ghost use lib.ListN.{length, getD, take, replicate};
+ghost use lib.ListN.{length, getD, take, drop, replicate};
 ghost use lib.Dec.{ltb};
 ghost use Rattle.octets.specs.Part.{part, splice, PartOf};
 ghost use Rattle.octets.specs.Same.{sameBytes, placeAmong};
 ghost use Rattle.octets.specs.Number.{fromLe, toLe, digits};
 ghost use Rattle.octets.specs.Field.{field};
+
+// The bytes of a number of 64 bits.
+const WORD: usize = 8;
 
 // The byte at i; past the end there are zeros.
 pub fn byte_at(s: &[u8], i: usize) -> u8
@@ -33,14 +36,12 @@ pub fn part_of<'a>(s: &'a [u8], at: usize, n: usize) -> &'a [u8]
     &s[at..end]
 }
 
-// Whether a and b hold the same bytes, compared from the last one.
-pub fn same(a: &[u8], b: &[u8]) -> bool
+// Whether a and b, which are the same from n on, hold the same bytes, compared from the last one.
+fn same_front(a: &[u8], b: &[u8], n: usize) -> bool
+    requires { ⌜ (length (now a) ≡ length (now b)) × (n ≤ length (now a)) × (drop n (now a) ≡ drop n (now b)) ⌝ }
     ensures { λ r. ⌜ r ≡ sameBytes (now (a .entry)) (now (b .entry)) ⌝ }
 {
-    if a.len() != b.len() {
-        return false;
-    }
-    let mut i = a.len();
+    let mut i = n;
     while 0 < i {
         i -= 1;
         if a[i] != b[i] {
@@ -48,6 +49,24 @@ pub fn same(a: &[u8], b: &[u8]) -> bool
         }
     }
     true
+}
+
+// Whether a and b hold the same bytes, compared from the last one: UTIs of one issuer differ at their end. Eight at a time.
+pub fn same(a: &[u8], b: &[u8]) -> bool
+    ensures { λ r. ⌜ r ≡ sameBytes (now (a .entry)) (now (b .entry)) ⌝ }
+{
+    if a.len() != b.len() {
+        return false;
+    }
+    let mut i = a.len();
+    while WORD <= i {
+        let at = i - WORD;
+        if read_le(&a[at..i]) != read_le(&b[at..i]) {
+            return false;
+        }
+        i = at;
+    }
+    same_front(a, b, i)
 }
 
 // The place of the first of `count` codes, each `width` bytes wide, that is the value; `count` where none is.

@@ -14,6 +14,7 @@ use elements::PACKAGE_PRICE;
 use elements::REPORTING_TIME;
 use elements::SETTLEMENT_DATE;
 use message::element;
+use message::entries_of;
 use message::is_here;
 use message::next_place;
 use message::value_at;
@@ -71,10 +72,11 @@ pub fn lowest_fault(m: &[u8], action: Action, check: Check) -> Checked
     requires { ⌜ Laid (now m) ⌝ }
     ensures { λ r. ⌜ r ≡ answerOf action (lowest (atFault check action (now (m .entry)))) ⌝ }
 {
+    let n = entries_of(m);
     let mut code: u16 = 1;
     let mut at: usize = 0;
     while code as usize <= LAST_CODE {
-        let here = is_here(m, code, at);
+        let here = is_here(m, n, code, at);
         if is_at_fault(m, action, check, code, at, here) {
             return Checked::Fault(code as u8);
         }

@@ -12,7 +12,7 @@ use Rattle.values.specs.Run.{runOf}
 use Rattle.numbers.specs.Numbers.{pointIn, wholeOf, decimalsOf, isNumber, unsignedOf, isPrice}
 use Rattle.dates.specs.Dates.{fitsPattern, twoDigits, leap, daysIn, gregorian, namesDate, isDate, isTime, before}
 use Rattle.message.specs.Layout.{u16At, entryRight, layoutRight}
-use Rattle.message.specs.Values.{entries, entryFrom, endOf, valueAt, value, isThere}
+use Rattle.message.specs.Values.{entries as wholeEntries, entryFrom, endOf, valueAt, value, isThere}
 use Rattle.actions.specs.Actions.{actionOf}
 use Rattle.actions.specs.Elements.{known, hasLayout}
 use Rattle.actions.specs.Matrix.{tick, pairAllowed}
@@ -47,7 +47,7 @@ unfolding isTrue isFalse isTruth isCleared isAllocation isNotation isAssetClass 
 forms = tt
 
 reading : Unit {0}
-unfolding u16At entryRight layoutRight entries entryFrom endOf valueAt value isThere actionOf known hasLayout tick pairAllowed isPackage notationIs conditionOf isDue kept formOf hasForm
+unfolding u16At entryRight layoutRight wholeEntries entryFrom endOf valueAt value isThere actionOf known hasLayout tick pairAllowed isPackage notationIs conditionOf isDue kept formOf hasForm
 reading = tt
 
 masking : Unit {0}

@@ -1,45 +1,58 @@
--- `octets::same` meets its contract. The invariant: from i on the bytes are equal. Assumes nothing.
-use mathlib.Core.Path.{_≡_, sym, ap}
-use Prim.Native.Nat.{ℕ, _-_, _≤_, _<_}
+-- `octets::same` meets its contract. The invariant: from i on the bytes are the same. Assumes nothing.
+use Prim.Native.Nat.{ℕ, _+_, _-_, _<_, _≤_}
+use mathlib.Core.Path.{_≡_, refl, sym, ap, ap₂, _∙_}
+use mathlib.Core.List.{List, _++_}
 use native.Mathlib.Omega.{arith}
+use lib.ListN.{length, take, drop, length-take, length-drop, take-append-drop, drop-of-length-le}
+use lib.Seq.{drop-drop, drop-length}
 use denote.Ref.{now}
+use Rattle.octets.specs.Number.{fromLe}
+use Rattle.octets.proofs.SameLaws.{same-false}
+use Rattle.octets.proofs.NumberLaws.{Bytes, fromLe-same, part-bytes}
 use borrow.Author.Needs.{needs}
-use lib.ListN.{length, getD}
-use lib.Seq.{ext-getD}
-use Rattle.octets.proofs.SameLaws.{same-refl, same-false}
-use Rattle.octets.proofs.WriteLaws.{from-more}
 use Rattle.octets.proofs.same.Statement.{statement}
 use Rattle.octets.proofs.same.Tie as tie
 
 abbrev Inv-loop : tie.InvT-loop
-Inv-loop a b i₀ i = (i ≤ length a) × (length a ≡ length b) × ((k : ℕ) → i ≤ k → k < length a → getD a k 0 ≡ getD b k 0)
+Inv-loop a b i₀ i = (i ≤ length a) × (length a ≡ length b) × (drop i a ≡ drop i b)
 
 abbrev μ-loop : tie.MeasureT-loop
 μ-loop a b i₀ i = i
+
+-- the same word before bytes that are the same
+word-more : (a b : List ℕ) (at n i : ℕ) → at + n ≡ i → length a ≡ length b → Bytes a → Bytes b → fromLe (take n (drop at a)) ≡ fromLe (take n (drop at b)) → drop i a ≡ drop i b → drop at a ≡ drop at b
+word-more a b at n i s l f g e r =
+    let lengths : length (take n (drop at a)) ≡ length (take n (drop at b)) = omega (arith, length-take n (drop at a), length-take n (drop at b), length-drop at a, length-drop at b) in
+    let word : take n (drop at a) ≡ take n (drop at b) = fromLe-same (take n (drop at a)) (take n (drop at b)) lengths (part-bytes a at n f) (part-bytes b at n g) e in
+    let rest : drop n (drop at a) ≡ drop n (drop at b) = drop-drop n at a ∙ ap (λ (k : ℕ). drop k a) s ∙ r ∙ sym (drop-drop n at b ∙ ap (λ (k : ℕ). drop k b) s) in
+    sym (take-append-drop n (drop at a)) ∙ ap₂ _++_ word rest ∙ take-append-drop n (drop at b)
 
 returns : tie.Need-returns Inv-loop μ-loop
 returns c = sym (same-false _ _ (λ e. omega (arith, ap length e, c .if1 .taken)))
 
 loop-holds : tie.Need-loop-holds Inv-loop μ-loop
-loop-holds c = (omega arith, c .if1 .left, λ k h l. omega arith)
+loop-holds c =
+    let a = now (c .before .before .before .args .a) in
+    let b = now (c .before .before .before .args .b) in
+    let l : length a ≡ length b = c .if1 .left in
+    let past : length b ≤ length a = omega arith in
+    (search needs, l, drop-length a ∙ sym (drop-of-length-le b past))
 
 returns-2 : tie.Need-returns-2 Inv-loop μ-loop
 returns-2 c =
-    let at = c .before .before .before .before in
-    sym (same-false _ _ (λ e. omega (arith, ap (λ l. getD l (at .loop .i - 1) 0) e, c .if2 .taken)))
+    let l = c .before .before .before .before .before .before .loop in
+    let at : ℕ = l .i - 8 in
+    sym (same-false _ _ (λ e. c .if2 .taken (c .before .before .before .read-le .ensures .0 ∙ ap (λ (xs : List ℕ). fromLe (take (l .i - at) (drop at xs))) e ∙ sym (c .before .read-le2 .ensures .0))))
 
 loop-again : tie.Need-loop-again Inv-loop μ-loop
 loop-again c =
-    let at = c .before .before .before .before in
-    let p = at .before .before .args in
-    (omega arith, at .loop .inv .1, from-more (λ k. getD (now (p .a)) k 0 ≡ getD (now (p .b)) k 0) (at .loop .i) (length (now (p .a))) (at .loop .inv .2) (c .if2 .left))
-
-returns-3 : tie.Need-returns-3 Inv-loop μ-loop
-returns-3 c =
-    let at = c .before in
-    let p = at .before .before .args in
-    let e : now (p .a) ≡ now (p .b) = ext-getD 0 (now (p .a)) (now (p .b)) (at .loop .inv .1) (λ k h. at .loop .inv .2 k (omega arith) h) in
-    rw e (sym (same-refl (now (p .b))))
+    let l = c .before .before .before .before .before .before .loop in
+    let known = c .before .before .before .before .before .before .before .before in
+    let a = now (known .before .before .args .a) in
+    let b = now (known .before .before .args .b) in
+    let at : ℕ = l .i - 8 in
+    let words : fromLe (take (l .i - at) (drop at a)) ≡ fromLe (take (l .i - at) (drop at b)) = sym (c .before .before .before .read-le .ensures .0) ∙ c .if2 .left ∙ c .before .read-le2 .ensures .0 in
+    (omega arith, l .inv .1, word-more a b at (l .i - at) (l .i) (omega arith) (l .inv .1) (λ k. known .before .shared-slice-known .given k .fits) (λ k. known .shared-slice-known2 .given k .fits) words (l .inv .2))
 
 pub same-spec : {M : Type 1} → statement M
 same-spec =
@@ -51,8 +64,14 @@ same-spec =
     loop-holds
     (λ c. search needs)
     (λ c. search needs)
-    (λ c. omega arith)
+    (λ c. search needs)
+    (λ c κs. search needs)
+    (λ c. search needs)
+    (λ c. search needs)
+    (λ c. search needs)
+    (λ c κs. search needs)
     returns-2
     (λ c. omega arith)
     loop-again
-    returns-3)
+    (λ c κs. search needs)
+    (λ c. search needs))

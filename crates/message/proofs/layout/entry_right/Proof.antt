@@ -14,7 +14,7 @@ use Rattle.message.proofs.layout.entry_right.Tie as tie
 
 -- what is known once the code was looked up, and once the offset was compared with the length
 known : (c : tie.After-knows) → getD (now (c .before .before .before .before .before .args .known)) (codeAt (now (c .before .before .before .before .before .args .m)) (c .before .before .before .before .before .args .k)) false ≡ c .knows .result
-known c = sym (c .knows .ensures ∙ ap (λ (n : ℕ). getD (now (c .before .before .before .before .before .args .known)) n false) (c .before .before .u16-at .ensures .0))
+known c = sym (c .knows .ensures ∙ ap (λ (n : ℕ). getD (now (c .before .before .before .before .before .args .known)) n false) (c .before .before .u16-inside .ensures .0))
 
 inside : (c : tie.Else2) → ltb (offsetAt (now (c .before .before .before .before .before .before .before .args .m)) (c .before .before .before .before .before .before .before .args .k)) (length (now (c .before .before .before .before .before .before .before .args .m))) ≡ true
 inside c =
@@ -36,9 +36,9 @@ returns-2 c =
 returns-3 : tie.Need-returns-3
 unfolding entryRight
 returns-3 c =
-    let o = c .before .before .before .before .before .u16-at2 .ensures .0 in
+    let o = c .before .before .before .before .before .u16-inside2 .ensures .0 in
     rw (known (c .before .before .before .before) ∙ not-false _ (c .before .before .before .if1 .left), inside (c .before .before), eq-eqb _ _ (c .before .if3 .taken))
-    (ap₂ eqb o (ap (λ (n : ℕ). countSize + entrySize * n) (c .u16-at3 .ensures .0)))
+    (ap₂ eqb o (ap (λ (n : ℕ). countSize + entrySize * n) (c .u16-inside3 .ensures .0)))
 
 returns-4 : tie.Need-returns-4
 unfolding entryRight
@@ -52,9 +52,9 @@ unfolding entryRight
 returns-5 c =
     let a = c .before .before .before .before .before .before .before .before .before .before .before .args in
     let z : codeAt (now (a .m)) (a .k - 1) < codeAt (now (a .m)) (a .k) = omega arith in
-    let o = c .before .before .before .before .before .before .before .u16-at2 .ensures .0 in
+    let o = c .before .before .before .before .before .before .before .u16-inside2 .ensures .0 in
     rw (known (c .before .before .before .before .before .before) ∙ not-false _ (c .before .before .before .before .before .if1 .left), inside (c .before .before .before .before), ne-eqb _ _ (c .before .before .before .if3 .left), lt-ltb _ _ z)
-    (ap₂ ltb (c .u16-at5 .ensures .0) o)
+    (ap₂ ltb (c .u16-inside5 .ensures .0) o)
 
 pub entry-right-spec : {M : Type 1} → statement M
 entry-right-spec =

@@ -6,14 +6,16 @@ use native.Mathlib.Nat.{sub-zero}
 use native.Mathlib.Omega.{arith}
 use borrow.Author.Tests.{le-leb, lt-leb, eq-eqb, ne-eqb, not-true, not-false}
 use denote.Ref.{now}
-use Rattle.octets.specs.Search.{allFrom}
+use Rattle.octets.specs.Search.{allFrom, all}
+use lib.ListN.{length}
 use Rattle.octets.proofs.SearchLaws.{all-more, all-stop, all-end}
-use Rattle.message.specs.Layout.{count, entryRight, layoutRight}
+use Rattle.message.specs.Layout.{count, headerSize, entryRight, layoutRight}
+use Rattle.message.proofs.LayoutLaws.{header-cut}
 use Rattle.message.proofs.layout.layout_right.Statement.{statement}
 use Rattle.message.proofs.layout.layout_right.Tie as tie
 
 abbrev Inv-loop : tie.InvT-loop
-Inv-loop m longest most known n k₀ k = (n ≡ count m) × (k ≤ n) × (n < 65536) × (allFrom (entryRight known m) k (count m - k) ≡ layoutRight longest most known m)
+Inv-loop m longest most known n k₀ k = (n ≡ count m) × (k ≤ n) × (n < 65536) × (headerSize m < length m) × (allFrom (entryRight known m) k (count m - k) ≡ layoutRight longest most known m)
 
 abbrev μ-loop : tie.MeasureT-loop
 μ-loop m longest most known n k₀ k = n - k
@@ -41,42 +43,52 @@ returns-4 c =
     let z : count (now (a .m)) ≡ 0 = omega arith in
     rw (le-leb _ _ (c .before .before .before .before .if1 .left), le-leb _ _ (c .before .before .before .if2 .left), le-leb _ _ r, eq-eqb _ _ z)
 
-loop-holds : tie.Need-loop-holds Inv-loop μ-loop
+-- where there are entries, the layout is what they tell
+told : (c : tie.Else4 Inv-loop μ-loop)
+    → let a = c .before .before .before .before .before .before .before .args in
+    layoutRight (a .longest) (a .most) (now (a .known)) (now (a .m)) ≡ all (entryRight (now (a .known)) (now (a .m))) (count (now (a .m)))
 unfolding layoutRight
-loop-holds c =
+told c =
     let a = c .before .before .before .before .before .before .before .args in
     let r : count (now (a .m)) ≤ a .most = omega arith in
-    let z : count (now (a .m)) ≡ 0 → ⊥ = omega arith in (
-      omega arith,
-      omega arith,
-      omega arith,
-      rw (sub-zero, le-leb _ _ (c .before .before .before .before .if1 .left), le-leb _ _ (c .before .before .before .if2 .left), le-leb _ _ r, ne-eqb _ _ z),
-    )
+    let z : count (now (a .m)) ≡ 0 → ⊥ = omega arith in
+    rw (le-leb _ _ (c .before .before .before .before .if1 .left), le-leb _ _ (c .before .before .before .if2 .left), le-leb _ _ r, ne-eqb _ _ z)
 
 returns-5 : tie.Need-returns-5 Inv-loop μ-loop
 returns-5 c =
-    let a = c .before .before .before .before .before .before .before .before .before .before .before .args in
+    let a = c .before .before .before .before .before .before .before .before .args in
+    let z : 0 < count (now (a .m)) = omega arith in
+    let cut : length (now (a .m)) ≤ headerSize (now (a .m)) = omega arith in
+    sym (told (c .before) ∙ rw sub-zero at (all-stop (entryRight (now (a .known)) (now (a .m))) 0 (count (now (a .m))) z (header-cut (now (a .known)) (now (a .m)) cut)))
+
+loop-holds : tie.Need-loop-holds Inv-loop μ-loop
+loop-holds c = (omega arith, omega arith, omega arith, omega arith, rw sub-zero (sym (told (c .before))))
+
+returns-6 : tie.Need-returns-6 Inv-loop μ-loop
+returns-6 c =
+    let a = c .before .before .before .before .before .before .before .before .before .before .before .before .args in
     let l = c .before .before .before .loop in
     let h : l .k < count (now (a .m)) = omega arith in
-    sym (all-stop (entryRight (now (a .known)) (now (a .m))) (l .k) (count (now (a .m))) h (sym (c .before .entry-right .ensures) ∙ not-true _ (c .if5 .taken))) ∙ l .inv .3
+    sym (all-stop (entryRight (now (a .known)) (now (a .m))) (l .k) (count (now (a .m))) h (sym (c .before .entry-right .ensures) ∙ not-true _ (c .if6 .taken))) ∙ l .inv .4
 
 loop-again : tie.Need-loop-again Inv-loop μ-loop
 loop-again c =
-    let a = c .before .before .before .before .before .before .before .before .before .before .before .args in
+    let a = c .before .before .before .before .before .before .before .before .before .before .before .before .args in
     let l = c .before .before .before .loop in
     let h : l .k < count (now (a .m)) = omega arith in (
       l .inv .0,
       omega arith,
       l .inv .2,
-      sym (all-more (entryRight (now (a .known)) (now (a .m))) (l .k) (count (now (a .m))) h (sym (c .before .entry-right .ensures) ∙ not-false _ (c .if5 .left))) ∙ l .inv .3,
+      l .inv .3,
+      sym (all-more (entryRight (now (a .known)) (now (a .m))) (l .k) (count (now (a .m))) h (sym (c .before .entry-right .ensures) ∙ not-false _ (c .if6 .left))) ∙ l .inv .4,
     )
 
-returns-6 : tie.Need-returns-6 Inv-loop μ-loop
-returns-6 c =
-    let a = c .before .before .before .before .before .before .before .before .before .args in
+returns-7 : tie.Need-returns-7 Inv-loop μ-loop
+returns-7 c =
+    let a = c .before .before .before .before .before .before .before .before .before .before .args in
     let l = c .before .loop in
     let h : count (now (a .m)) ≤ l .k = omega arith in
-    sym (all-end (entryRight (now (a .known)) (now (a .m))) (l .k) (count (now (a .m))) h) ∙ l .inv .3
+    sym (all-end (entryRight (now (a .known)) (now (a .m))) (l .k) (count (now (a .m))) h) ∙ l .inv .4
 
 pub layout-right-spec : {M : Type 1} → statement M
 layout-right-spec =
@@ -89,10 +101,13 @@ layout-right-spec =
     (λ c κs. search needs)
     returns-3
     returns-4
+    (λ c. search needs)
+    (λ c. search needs)
+    returns-5
     loop-holds
     (λ c κs. search needs)
-    returns-5
+    returns-6
     (λ c. search needs)
     (λ c. search needs)
     loop-again
-    returns-6)
+    returns-7)

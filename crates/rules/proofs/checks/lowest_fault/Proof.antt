@@ -17,7 +17,7 @@ use Rattle.rules.proofs.checks.lowest_fault.Statement.{statement}
 use Rattle.rules.proofs.checks.lowest_fault.Tie as tie
 
 abbrev Inv-loop : tie.InvT-loop
-Inv-loop m action check code₀ at₀ code at =
+Inv-loop m action check n code₀ at₀ code at =
     (code ≤ lastCode + 1)
     × Laid m
     × Reached m code at
@@ -25,15 +25,15 @@ Inv-loop m action check code₀ at₀ code at =
     × (firstFrom (atFault check action m) code (lastCode + 1 - code) ≡ firstFrom (atFault check action m) 1 lastCode)
 
 abbrev μ-loop : tie.MeasureT-loop
-μ-loop m action check code₀ at₀ code at = lastCode + 1 - code
+μ-loop m action check n code₀ at₀ code at = lastCode + 1 - code
 
 loop-holds : tie.Need-loop-holds Inv-loop μ-loop
-loop-holds c = (search needs, search needs, reached-start (now (c .before .args .m)) (search needs), search needs, refl)
+loop-holds c = (search needs, search needs, reached-start (now (c .before .before .args .m)) (search needs), search needs, refl)
 
 returns : tie.Need-returns Inv-loop μ-loop
 unfolding lowest
 returns c =
-    let a = c .before .before .before .before .before .before .args in
+    let a = c .before .before .before .before .before .before .before .args in
     let l = c .before .before .before .before .loop in
     let h : l .code < lastCode + 1 = omega arith in
     let u : l .code ≤ lastCode = omega arith in
@@ -42,7 +42,7 @@ returns c =
 
 loop-again : tie.Need-loop-again Inv-loop μ-loop
 loop-again c =
-    let a = c .before .before .before .before .before .before .before .args in
+    let a = c .before .before .before .before .before .before .before .before .args in
     let l = c .before .before .before .before .before .loop in
     let h : l .code < lastCode + 1 = omega arith in
     let here = c .before .before .before .is-here .ensures in
@@ -58,7 +58,7 @@ loop-again c =
 returns-2 : tie.Need-returns-2 Inv-loop μ-loop
 unfolding lowest
 returns-2 c =
-    let a = c .before .before .before .args in
+    let a = c .before .before .before .before .args in
     let l = c .before .loop in
     let h : lastCode + 1 ≤ l .code = omega arith in
     let u : lastCode < l .code = omega arith in
@@ -71,6 +71,7 @@ lowest-fault-spec =
     (tie.spec
     Inv-loop
     μ-loop
+    (λ c κs. search needs)
     loop-holds
     (λ c. search needs)
     (λ c κs. search needs)
