@@ -7,9 +7,9 @@ use native.Mathlib.Omega.{arith}
 use lib.ListN.{length, getD, List·getD-eq-default}
 use Rattle.actions.specs.declared.Action.{Action}
 use Rattle.actions.specs.declared.Action.the-variants.{Newt, Modi, Corr, Term, Eror, Revi, Prto}
-use Rattle.octets.specs.Choice.{choose}
+use Rattle.octets.specs.Choice.{choose, both}
 use Rattle.actions.specs.Actions.{allActions, rowOf, isFull}
-use Rattle.actions.specs.Elements.{lastCode, lastShortCode, columnOf, takes, optional, needed, needs}
+use Rattle.actions.specs.Elements.{lastCode, lastShortCode, columnOf, takes, optional, needed, neededBy, needs}
 use Rattle.actions.specs.Statuses.{unknown, live, closed, errored, ported, noStep, nextStatus}
 use mathlib.Core.Bool.{Bool, true, false}
 use lib.Dec.{leb, eqb, lit<}
@@ -44,26 +44,18 @@ table-at rule m n r c d h l = ap (λ row. getD row c d) (entry (λ k. map (rule 
 abbrev pub actionAt : ℕ → Action
 actionAt r = getD allActions r Newt
 
-row-low : (a : Action) → rowOf a < length allActions
-row-low Newt = lit< tt
-row-low Modi = lit< tt
-row-low Corr = lit< tt
-row-low Term = lit< tt
-row-low Eror = lit< tt
-row-low Revi = lit< tt
-row-low Prto = lit< tt
-
-action-back : (a : Action) → actionAt (rowOf a) ≡ a
-action-back Newt = refl
-action-back Modi = refl
-action-back Corr = refl
-action-back Term = refl
-action-back Eror = refl
-action-back Revi = refl
-action-back Prto = refl
+-- each action stands in its row
+pub in-row : (a : Action) → (rowOf a < length allActions) × (actionAt (rowOf a) ≡ a)
+in-row Newt = (lit< tt, refl)
+in-row Modi = (lit< tt, refl)
+in-row Corr = (lit< tt, refl)
+in-row Term = (lit< tt, refl)
+in-row Eror = (lit< tt, refl)
+in-row Revi = (lit< tt, refl)
+in-row Prto = (lit< tt, refl)
 
 pub action-table-at : {A : Type 0} (rule : Action → ℕ → A) (n : ℕ) (a : Action) (c : ℕ) (d : A) → c < n → getD (getD (table (λ r. rule (actionAt r)) (length allActions) n) (rowOf a) []) c d ≡ rule a c
-action-table-at rule n a c d h = table-at (λ r. rule (actionAt r)) (length allActions) n (rowOf a) c d (row-low a) h ∙ ap (λ b. rule b c) (action-back a)
+action-table-at rule n a c d h = table-at (λ r. rule (actionAt r)) (length allActions) n (rowOf a) c d (in-row a .0) h ∙ ap (λ b. rule b c) (in-row a .1)
 
 -- ---- the table of elements, with a row for each code and two columns for each kind of action
 
@@ -79,22 +71,18 @@ column-low a = by (isFull a)
 
 -- what an action takes and needs depends on whether it is full
 pub takes-column : (a : Action) (code : ℕ) → useAt code (columnOf a) ≡ takes a code
-takes-column Newt code = refl
-takes-column Modi code = refl
-takes-column Corr code = refl
-takes-column Term code = refl
-takes-column Eror code = refl
-takes-column Revi code = refl
-takes-column Prto code = refl
+takes-column a code = by (isFull a)
+  where
+    by : (t : Bool) → useAt code (choose t 0 2) ≡ both (leb 1 code) (leb code (choose t lastCode lastShortCode))
+    by true = refl
+    by false = refl
 
 pub needs-column : (a : Action) (code : ℕ) → useAt code (columnOf a + 1) ≡ needs a code
-needs-column Newt code = refl
-needs-column Modi code = refl
-needs-column Corr code = refl
-needs-column Term code = refl
-needs-column Eror code = refl
-needs-column Revi code = refl
-needs-column Prto code = refl
+needs-column a code = by (isFull a)
+  where
+    by : (t : Bool) → useAt code (choose t 0 2 + 1) ≡ neededBy t (getD needed code optional)
+    by true = refl
+    by false = refl
 
 -- ---- beyond the last column
 

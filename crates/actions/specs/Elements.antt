@@ -1,4 +1,4 @@
--- Document 01, 'Elements': which elements a message of an action takes and needs (verdicts 5, 7 and 8).
+-- Document 01, 'The message' and 'Elements': which codes are known, and which elements a message of an action takes and needs (verdicts 5, 7 and 8).
 use Prim.Native.Nat.{ℕ}
 use mathlib.Core.Bool.{Bool, true, false}
 use mathlib.Core.List.{List, [], _∷_}
@@ -13,13 +13,17 @@ use Rattle.actions.specs.Actions.{isFull}
 abbrev pub lastCode : ℕ
 lastCode = 25
 
--- the number of a message's entries is 0 to 25, and a code from 0 on is known where it lies in 1 to 25
+-- a code, from 0 on, is known where it lies in 1 to 25
 unfoldable pub known : List Bool
 known = false ∷ replicate lastCode true
 
+-- a message has a count n of entries, 0 to 25
+abbrev pub mostEntries : ℕ
+mostEntries = 25
+
 -- the layout of a message (verdict 5)
 unfoldable pub hasLayout : ℕ → List ℕ → Bool
-hasLayout longest m = layoutRight longest lastCode known m
+hasLayout longest m = layoutRight longest mostEntries known m
 
 -- TERM, EROR and PRTO take codes 1 to 5 only
 abbrev pub lastShortCode : ℕ
@@ -66,12 +70,12 @@ needed =
     ∷ full  -- 25 asset class
     ∷ []
 
--- needed by a message that is full, or by one that is not
+-- needed by a message, as the test tells whether it is full
 abbrev pub neededBy : Bool → Needed → Bool
-neededBy isFull all = true
-neededBy isFull full = isFull
-neededBy isFull conditional = false
-neededBy isFull optional = false
+neededBy t all = true
+neededBy t full = t
+neededBy t conditional = false
+neededBy t optional = false
 
 -- a message of the action needs the element, whatever else it has
 abbrev pub needs : Action → ℕ → Bool

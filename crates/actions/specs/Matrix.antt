@@ -17,7 +17,7 @@ abbrev pub events : List String
 events = "TRAD" ∷ "NOVA" ∷ "COMP" ∷ "ETRM" ∷ "CLRG" ∷ "EXER" ∷ "ALOC" ∷ "CLAL" ∷ "CREV" ∷ "PTNG" ∷ "CORP" ∷ "UPDT" ∷ []
 
 abbrev pub noEvent : ℕ
-noEvent = 12
+noEvent = length events
 
 -- a row for each action; Y where Appendix F has a tick
 abbrev pub matrix : List String

@@ -8,7 +8,11 @@ use crate::Y;
 use crate::is_full;
 use message::layout_right;
 
+// Codes lie in 1 to 25.
 pub const LAST_CODE: usize = 25;
+
+// A message has a count n of entries, 0 to 25.
+const MOST_ENTRIES: usize = 25;
 
 const CODES: usize = LAST_CODE + 1;
 
@@ -48,7 +52,7 @@ pub fn has_layout(m: &[u8], longest: usize) -> bool
 {
     let mut known = [true; CODES];
     known[0] = false;
-    layout_right(m, longest, LAST_CODE, &known)
+    layout_right(m, longest, MOST_ENTRIES, &known)
 }
 
 // The first of an action's two columns.

@@ -1,4 +1,4 @@
-// The seven actions: how they are read, which elements and events go with each, and the steps of a swap's status.
+// The seven actions: document 01, 'Elements', how they are read and which elements and events go with each, and 'Statuses', the steps of a swap's status.
 mod elements;
 mod matrix;
 mod statuses;

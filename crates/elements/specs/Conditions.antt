@@ -1,15 +1,17 @@
 -- Document 01, 'Elements': elements that are needed under an "if" (verdict 11), and what is left out.
-use Prim.Native.Nat.{ℕ}
-use mathlib.Core.Bool.{Bool, true, false}
+use Prim.Native.Nat.{ℕ, _≤_}
+use mathlib.Core.Bool.{Bool, true, false, not}
+use mathlib.Core.Path.{_≡_}
 use mathlib.Core.List.{List, []}
+use lib.ListN.{getD}
 use lib.Dec.{eqb}
 use Rattle.octets.specs.Choice.{choose, both}
 use Rattle.octets.specs.Text.{text}
 use Rattle.octets.specs.Same.{sameBytes}
-use Rattle.values.specs.Run.{within}
 use Rattle.values.specs.Code.{isTrue}
 use Rattle.message.specs.Values.{value}
-use Rattle.elements.specs.Codes.{cleared, nonStandardizedTerm, packageIndicator, packageIdentifier, priceNotation, priceCurrency}
+use Rattle.actions.specs.Elements.{lastCode, Needed, all, full, conditional, optional, needed}
+use Rattle.elements.specs.Codes.{eventType, cleared, nonStandardizedTerm, packageIndicator, packageIdentifier, packagePrice, priceNotation, priceCurrency}
 use Rattle.elements.specs.declared.conditions.Condition.{Condition}
 use Rattle.elements.specs.declared.conditions.Condition.the-variants.{Unconditional, ClearedIsN, Package, PackageInCurrency}
 
@@ -25,8 +27,10 @@ notationIs code m = sameBytes (value priceNotation m) code
 unfoldable pub conditionOf : ℕ → Condition
 conditionOf code =
     choose (eqb code nonStandardizedTerm) ClearedIsN
-    (choose (within packageIdentifier priceNotation code) Package
-    (choose (eqb code priceCurrency) PackageInCurrency Unconditional))
+    (choose (eqb code packageIdentifier) Package
+    (choose (eqb code packagePrice) Package
+    (choose (eqb code priceNotation) Package
+    (choose (eqb code priceCurrency) PackageInCurrency Unconditional))))
 
 -- what the "if" says of a message; an element without one has nothing to be met
 abbrev pub met : Condition → List ℕ → Bool
@@ -40,6 +44,16 @@ isConditional Unconditional = false
 isConditional ClearedIsN = true
 isConditional Package = true
 isConditional PackageInCurrency = true
+
+-- the same column in the table of needed elements: it has an "if" at just these codes; code 3 is needed by pair
+abbrev pub hasIf : Needed → Bool
+hasIf all = false
+hasIf full = false
+hasIf conditional = true
+hasIf optional = false
+
+abbrev pub Conditions-agree : Type 0
+Conditions-agree = (code : ℕ) → code ≤ lastCode → isConditional (conditionOf code) ≡ both (not (eqb code eventType)) (hasIf (getD needed code optional))
 
 -- the element has an "if", and it is met
 unfoldable pub isDue : ℕ → List ℕ → Bool

@@ -1,10 +1,11 @@
 // Elements that are needed under a condition, and what is left out where it is not met.
 ghost use mathlib.Core.Path.{_≡_};
-ghost use Rattle.elements.specs.Conditions.{isPackage, notationIs, conditionOf, met, isConditional, isDue, kept};
+ghost use Rattle.elements.specs.Conditions.{isPackage, notationIs, conditionOf, met, isConditional, Conditions-agree, isDue, kept};
 use crate::codes::CLEARED;
 use crate::codes::NON_STANDARDIZED_TERM;
 use crate::codes::PACKAGE_IDENTIFIER;
 use crate::codes::PACKAGE_INDICATOR;
+use crate::codes::PACKAGE_PRICE;
 use crate::codes::PRICE_CURRENCY;
 use crate::codes::PRICE_NOTATION;
 use message::element;
@@ -31,16 +32,20 @@ pub fn notation_is(m: &[u8], code: &[u8]) -> bool
     same(element(m, PRICE_NOTATION), code)
 }
 
+// The condition of an element in the column 'Needed'.
 fn condition_of(code: u16) -> Condition
-    ensures { λ r. ⌜ r ≡ conditionOf code ⌝ }
+    ensures { λ r. ⌜ (r ≡ conditionOf code) × Conditions-agree ⌝ }
 {
     if code == NON_STANDARDIZED_TERM {
         return Condition::ClearedIsN;
     }
-    if code < PACKAGE_IDENTIFIER {
-        return Condition::Unconditional;
+    if code == PACKAGE_IDENTIFIER {
+        return Condition::Package;
     }
-    if code <= PRICE_NOTATION {
+    if code == PACKAGE_PRICE {
+        return Condition::Package;
+    }
+    if code == PRICE_NOTATION {
         return Condition::Package;
     }
     if code == PRICE_CURRENCY {

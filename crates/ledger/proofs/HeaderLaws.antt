@@ -2,17 +2,31 @@
 use Prim.Native.Nat.{ℕ, _≤_}
 use Prim.Native.String.{String}
 use mathlib.Core.Bool.{Bool, true, false}
-use mathlib.Core.List.{List, [], _∷_}
-use mathlib.Core.Path.{_≡_}
+use mathlib.Core.List.{List, [], _∷_, map}
+use mathlib.Core.Path.{_≡_, refl}
 use native.Mathlib.Omega.{arith}
 use Rattle.octets.specs.Choice.{choose}
 use Rattle.octets.specs.Same.{sameBytes, beside}
 use Rattle.octets.specs.Text.{text}
 use Rattle.octets.proofs.ChoiceLaws.{both-first, both-second}
+use Rattle.values.specs.Code.{assetClasses}
 use Rattle.notional.specs.Masking.{isCap, largestCap}
 use Rattle.notional.proofs.MaskingLaws.{cap-largest}
-use Rattle.ledger.specs.Header.{capFor, areCaps}
+use Rattle.ledger.specs.Header.{classCaps, capFor, areCaps}
 use Rattle.ledger.specs.declared.header.Caps.{Caps}
+
+-- the classes with a cap are those that the form of code 25 admits
+pub classes-with-caps : (caps : Caps) → map (λ c. c .0) (classCaps caps) ≡ assetClasses
+classes-with-caps caps = refl
+
+-- the caps one by one
+pub each-cap : (caps : Caps) → areCaps caps ≡ true → (isCap (caps .cr) ≡ true) × (isCap (caps .ir) ≡ true) × (isCap (caps .fx) ≡ true) × (isCap (caps .eq) ≡ true) × (isCap (caps .co) ≡ true)
+unfolding areCaps
+each-cap caps e =
+    let ir = both-second (isCap (caps .cr)) _ e in
+    let fx = both-second (isCap (caps .ir)) _ ir in
+    let eq = both-second (isCap (caps .fx)) _ fx in
+    (both-first _ _ e, both-first _ _ ir, both-first _ _ fx, both-first _ _ eq, both-second (isCap (caps .eq)) _ eq)
 
 -- ---- the cap of a class is what the masking requires of it
 
@@ -29,10 +43,7 @@ more-largest c cs v e l = by (sameBytes v (text (c .0)))
     by false = l
 
 pub cap-for-largest : (caps : Caps) → areCaps caps ≡ true → (v : List ℕ) → capFor caps v ≤ largestCap
-unfolding capFor areCaps
+unfolding capFor
 cap-for-largest caps e v =
-    let ir = both-second (isCap (caps .cr)) _ e in
-    let fx = both-second (isCap (caps .ir)) _ ir in
-    let eq = both-second (isCap (caps .fx)) _ fx in
-    let co = both-second (isCap (caps .eq)) _ eq in
-    more-largest _ _ v (both-first _ _ e) (more-largest _ _ v (both-first _ _ ir) (more-largest _ _ v (both-first _ _ fx) (more-largest _ _ v (both-first _ _ eq) (more-largest _ _ v co (none-largest v)))))
+    let is = each-cap caps e in
+    more-largest _ _ v (is .0) (more-largest _ _ v (is .1) (more-largest _ _ v (is .2) (more-largest _ _ v (is .3) (more-largest _ _ v (is .4) (none-largest v)))))

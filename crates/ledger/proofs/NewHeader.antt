@@ -10,7 +10,6 @@ use lib.Dec.{lit<}
 use Rattle.octets.specs.Part.{part, splice}
 use Rattle.octets.specs.Fields.{noField, written, Placed}
 use Rattle.octets.specs.Number.{fromLe, toLe}
-use Rattle.octets.proofs.ChoiceLaws.{both-first, both-second}
 use Rattle.octets.proofs.PartLaws.{length-splice}
 use Rattle.octets.proofs.NumberLaws.{length-toLe, fromLe-toLe}
 use Rattle.octets.proofs.FieldLaws.{field-exact}
@@ -20,6 +19,7 @@ use Rattle.notional.proofs.MaskingLaws.{cap-largest}
 use Rattle.ledger.specs.declared.header.Caps.{Caps}
 use Rattle.ledger.specs.Layout.{u32, u64, rowsAt, headerSize, rowSize, shortestLedger}
 use Rattle.ledger.specs.Header.{rowsInUse, firstRow, nextIdentifier, capsIn, sizeOfRows, capacityIn, areCaps, capacityFor, headerRight, capFields, headerFields, newHeader}
+use Rattle.ledger.proofs.HeaderLaws.{each-cap}
 use Rattle.ledger.proofs.RightHeader.{header-right}
 
 module _ (caps : Caps) (capacity : ℕ) where
@@ -74,23 +74,20 @@ module _ (caps : Caps) (capacity : ℕ) (l : List ℕ) (room : headerSize ≤ le
   cap-back cap e = fromLe-toLe u64 cap (omega (arith, cap-largest cap e))
 
   pub opened-caps : areCaps caps ≡ true → capsIn (splice l rowsAt (newHeader caps capacity)) ≡ caps
-  unfolding capsIn headerFields capFields areCaps
+  unfolding capsIn headerFields capFields
   opened-caps e =
-      let ir = both-second (isCap (caps .cr)) _ e in
-      let fx = both-second (isCap (caps .ir)) _ ir in
-      let eq = both-second (isCap (caps .fx)) _ fx in
-      let co = both-second (isCap (caps .eq)) _ eq in
+      let is = each-cap caps e in
       rw (
         read-back 3 (lit< tt) (length-toLe u64 (caps .cr)),
         read-back 4 (lit< tt) (length-toLe u64 (caps .ir)),
         read-back 5 (lit< tt) (length-toLe u64 (caps .fx)),
         read-back 6 (lit< tt) (length-toLe u64 (caps .eq)),
         read-back 7 (lit< tt) (length-toLe u64 (caps .co)),
-        cap-back (caps .cr) (both-first _ _ e),
-        cap-back (caps .ir) (both-first _ _ ir),
-        cap-back (caps .fx) (both-first _ _ fx),
-        cap-back (caps .eq) (both-first _ _ eq),
-        cap-back (caps .co) co,
+        cap-back (caps .cr) (is .0),
+        cap-back (caps .ir) (is .1),
+        cap-back (caps .fx) (is .2),
+        cap-back (caps .eq) (is .3),
+        cap-back (caps .co) (is .4),
       )
 
   pub opened-size : sizeOfRows (splice l rowsAt (newHeader caps capacity)) ≡ rowSize

@@ -7,7 +7,7 @@ use native.Mathlib.Omega.{arith}
 use native.Mathlib.Decide.{decLt}
 use lib.ListN.{length, getD}
 use Rattle.octets.specs.Choice.{choose}
-use Rattle.octets.specs.Part.{splice}
+use Rattle.octets.specs.Part.{part, splice}
 use Rattle.octets.specs.Number.{fromLe, toLe}
 use Rattle.octets.proofs.NumberLaws.{length-toLe, fromLe-toLe}
 use Rattle.octets.proofs.PartLaws.{length-splice, part-at, part-before, part-after, byte-apart}
@@ -17,45 +17,33 @@ use Rattle.ledger.specs.Layout.{u32, u64, rowsAt, nextAt, capsAt, capAt,
 use Rattle.ledger.specs.Header.{rowsInUse, nextIdentifier, capsIn}
 use Rattle.ledger.specs.Rows.{rowAt, withRows, withNext, headerAfter}
 
--- bytes that a write does not touch: those before it and those after it
+-- what a write does not touch: a part that ends before it or starts after it
 module _ (l ys : List ℕ) (at : ℕ) (h : at + length ys ≤ length l) where
-  rows-beside : u32 ≤ at → rowsInUse (splice l at ys) ≡ rowsInUse l
+  part-beside : (from n : ℕ) → (at < from + n → at + length ys ≤ from) → part (splice l at ys) from n ≡ part l from n
+  part-beside from n apart =
+      elim (decLt at (from + n)) [
+        | yes b ↦ part-after l ys at h from n (apart b)
+        | no b ↦ part-before l ys at h from n (omega arith)
+      ]
+
+  rows-beside : (at < rowsAt + u32 → at + length ys ≤ rowsAt) → rowsInUse (splice l at ys) ≡ rowsInUse l
   unfolding rowsInUse
-  rows-beside b = ap fromLe (part-before l ys at h rowsAt u32 (omega arith))
+  rows-beside apart = ap fromLe (part-beside rowsAt u32 apart)
 
-  next-before : nextAt + u64 ≤ at → nextIdentifier (splice l at ys) ≡ nextIdentifier l
+  next-beside : (at < nextAt + u64 → at + length ys ≤ nextAt) → nextIdentifier (splice l at ys) ≡ nextIdentifier l
   unfolding nextIdentifier
-  next-before b = ap fromLe (part-before l ys at h nextAt u64 b)
+  next-beside apart = ap fromLe (part-beside nextAt u64 apart)
 
-  next-after : at + length ys ≤ nextAt → nextIdentifier (splice l at ys) ≡ nextIdentifier l
-  unfolding nextIdentifier
-  next-after b = ap fromLe (part-after l ys at h nextAt u64 b)
-
-  caps-before : capAt 5 ≤ at → capsIn (splice l at ys) ≡ capsIn l
+  caps-beside : (at < capAt 5 → at + length ys ≤ capsAt) → capsIn (splice l at ys) ≡ capsIn l
   unfolding capsIn
-  caps-before b =
-      rw (
-        part-before l ys at h (capAt 0) u64 (omega arith),
-        part-before l ys at h (capAt 1) u64 (omega arith),
-        part-before l ys at h (capAt 2) u64 (omega arith),
-        part-before l ys at h (capAt 3) u64 (omega arith),
-        part-before l ys at h (capAt 4) u64 (omega arith),
-      )
+  caps-beside apart = rw (cap 0 (omega arith), cap 1 (omega arith), cap 2 (omega arith), cap 3 (omega arith), cap 4 (omega arith))
+    where
+      cap : (k : ℕ) → k < 5 → part (splice l at ys) (capAt k) u64 ≡ part l (capAt k) u64
+      cap k b = part-beside (capAt k) u64 (λ c. omega (arith, apart (omega arith)))
 
-  caps-after : at + length ys ≤ capsAt → capsIn (splice l at ys) ≡ capsIn l
-  unfolding capsIn
-  caps-after b =
-      rw (
-        part-after l ys at h (capAt 0) u64 (omega arith),
-        part-after l ys at h (capAt 1) u64 (omega arith),
-        part-after l ys at h (capAt 2) u64 (omega arith),
-        part-after l ys at h (capAt 3) u64 (omega arith),
-        part-after l ys at h (capAt 4) u64 (omega arith),
-      )
-
-  row-behind : at + length ys ≤ headerSize → (k : ℕ) → rowAt (splice l at ys) k ≡ rowAt l k
+  row-beside : (k : ℕ) → (at < rowStart k + rowSize → at + length ys ≤ rowStart k) → rowAt (splice l at ys) k ≡ rowAt l k
   unfolding rowAt
-  row-behind b k = part-after l ys at h (rowStart k) rowSize (omega arith)
+  row-beside k apart = part-beside (rowStart k) rowSize apart
 
 -- ---- a row is written
 
@@ -67,25 +55,20 @@ module _ (l r : List ℕ) (k : ℕ) (size : length r ≡ rowSize) (room : rowSta
   row-length = length-splice l r (rowStart k) fits
 
   pub row-rows : rowsInUse (splice l (rowStart k) r) ≡ rowsInUse l
-  row-rows = rows-beside l r (rowStart k) fits (omega arith)
+  row-rows = rows-beside l r (rowStart k) fits (λ b. omega arith)
 
   pub row-next : nextIdentifier (splice l (rowStart k) r) ≡ nextIdentifier l
-  row-next = next-before l r (rowStart k) fits (omega arith)
+  row-next = next-beside l r (rowStart k) fits (λ b. omega arith)
 
   pub row-caps : capsIn (splice l (rowStart k) r) ≡ capsIn l
-  row-caps = caps-before l r (rowStart k) fits (omega arith)
+  row-caps = caps-beside l r (rowStart k) fits (λ b. omega arith)
 
   pub row-same : rowAt (splice l (rowStart k) r) k ≡ r
   unfolding rowAt
   row-same = rw (size) at (part-at l r (rowStart k) fits)
 
   pub row-other : (j : ℕ) → (j ≡ k → ⊥) → rowAt (splice l (rowStart k) r) j ≡ rowAt l j
-  unfolding rowAt
-  row-other j differ =
-      elim (decLt j k) [
-        | yes b ↦ part-before l r (rowStart k) fits (rowStart j) rowSize (omega arith)
-        | no b ↦ part-after l r (rowStart k) fits (rowStart j) rowSize (omega (arith, differ))
-      ]
+  row-other j differ = row-beside l r (rowStart k) fits j (λ b. omega (arith, differ))
 
 -- ---- rows in use are written
 
@@ -103,15 +86,15 @@ module _ (l : List ℕ) (n : ℕ) (room : headerSize ≤ length l) where
 
   pub rows-next : nextIdentifier (withRows n l) ≡ nextIdentifier l
   unfolding withRows
-  rows-next = next-after l (toLe u32 n) rowsAt rows-fit (omega (arith, length-toLe u32 n))
+  rows-next = next-beside l (toLe u32 n) rowsAt rows-fit (λ b. omega (arith, length-toLe u32 n))
 
   pub rows-caps : capsIn (withRows n l) ≡ capsIn l
   unfolding withRows
-  rows-caps = caps-after l (toLe u32 n) rowsAt rows-fit (omega (arith, length-toLe u32 n))
+  rows-caps = caps-beside l (toLe u32 n) rowsAt rows-fit (λ b. omega (arith, length-toLe u32 n))
 
   pub rows-row : (k : ℕ) → rowAt (withRows n l) k ≡ rowAt l k
   unfolding withRows
-  rows-row k = row-behind l (toLe u32 n) rowsAt rows-fit (omega (arith, length-toLe u32 n)) k
+  rows-row k = row-beside l (toLe u32 n) rowsAt rows-fit k (λ b. omega (arith, length-toLe u32 n))
 
   -- ---- the next identifier is written
 
@@ -124,7 +107,7 @@ module _ (l : List ℕ) (n : ℕ) (room : headerSize ≤ length l) where
 
   pub next-rows : rowsInUse (withNext n l) ≡ rowsInUse l
   unfolding withNext
-  next-rows = rows-beside l (toLe u64 n) nextAt next-fit (omega arith)
+  next-rows = rows-beside l (toLe u64 n) nextAt next-fit (λ b. omega arith)
 
   pub next-next : n < 256 ^ u64 → nextIdentifier (withNext n l) ≡ n
   unfolding withNext nextIdentifier
@@ -132,11 +115,11 @@ module _ (l : List ℕ) (n : ℕ) (room : headerSize ≤ length l) where
 
   pub next-caps : capsIn (withNext n l) ≡ capsIn l
   unfolding withNext
-  next-caps = caps-after l (toLe u64 n) nextAt next-fit (omega (arith, length-toLe u64 n))
+  next-caps = caps-beside l (toLe u64 n) nextAt next-fit (λ b. omega (arith, length-toLe u64 n))
 
   pub next-row : (k : ℕ) → rowAt (withNext n l) k ≡ rowAt l k
   unfolding withNext
-  next-row k = row-behind l (toLe u64 n) nextAt next-fit (omega (arith, length-toLe u64 n)) k
+  next-row k = row-beside l (toLe u64 n) nextAt next-fit k (λ b. omega (arith, length-toLe u64 n))
 
 -- ---- both are raised, as the action says
 

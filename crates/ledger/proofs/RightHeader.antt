@@ -10,21 +10,11 @@ use borrow.Author.Tests.{eqb-true, leb-true, eq-eqb, le-leb}
 use Rattle.octets.specs.Choice.{choose, both}
 use Rattle.octets.proofs.ChoiceLaws.{both-first, both-second}
 use Rattle.values.specs.Run.{within}
-use Rattle.ledger.specs.Layout.{headerSize, rowSize, rowStart, shortestLedger, lastIdentifier}
+use Rattle.ledger.specs.Layout.{headerSize, rowSize, rowStart, shortestLedger, identifierLimit}
 use Rattle.ledger.specs.declared.header.Header.{Header}
 use Rattle.ledger.specs.declared.header.HeaderCheck.{HeaderCheck}
 use Rattle.ledger.specs.declared.header.HeaderCheck.the-variants.{Fault, Value}
-use Rattle.ledger.specs.Header.{rowsInUse, firstRow, nextIdentifier, sizeOfRows, capacityIn, capsIn, areCaps, capacityFor, headerRight, headerOf, checkedHeader}
-
-pub record RightHeader (largest : ℕ) (l : List ℕ) : Type 0 where
-  pub long : shortestLedger ≤ length l
-  pub offset : firstRow l ≡ headerSize
-  pub positive : 1 ≤ nextIdentifier l
-  pub next : nextIdentifier l ≤ lastIdentifier
-  pub size : sizeOfRows l ≡ rowSize
-  pub capacity : capacityIn l ≡ capacityFor largest (length l)
-  pub rows : rowsInUse l ≤ capacityIn l
-  pub caps : areCaps (capsIn l) ≡ true
+use Rattle.ledger.specs.Header.{rowsInUse, firstRow, nextIdentifier, sizeOfRows, capacityIn, capsIn, areCaps, capacityFor, headerRight, RightHeader, headerOf, checkedHeader}
 
 -- the header is right exactly where each clause holds
 pub right-header : (largest : ℕ) (l : List ℕ) → headerRight largest l ≡ true → RightHeader largest l
@@ -32,7 +22,7 @@ unfolding headerRight
 right-header largest l e =
     let c₁ = leb shortestLedger (length l) in
     let c₂ = eqb (firstRow l) headerSize in
-    let c₃ = within 1 lastIdentifier (nextIdentifier l) in
+    let c₃ = within 1 identifierLimit (nextIdentifier l) in
     let c₄ = eqb (sizeOfRows l) rowSize in
     let c₅ = eqb (capacityIn l) (capacityFor largest (length l)) in
     let c₆ = leb (rowsInUse l) (capacityIn l) in
@@ -42,12 +32,12 @@ right-header largest l e =
     let r₄ = both-second c₃ (both c₄ (both c₅ (both c₆ c₇))) r₃ in
     let r₅ = both-second c₄ (both c₅ (both c₆ c₇)) r₄ in
     let r₆ = both-second c₅ (both c₆ c₇) r₅ in
-    let range : within 1 lastIdentifier (nextIdentifier l) ≡ true = both-first c₃ (both c₄ (both c₅ (both c₆ c₇))) r₃ in
+    let range : within 1 identifierLimit (nextIdentifier l) ≡ true = both-first c₃ (both c₄ (both c₅ (both c₆ c₇))) r₃ in
     record {
       long = leb-true _ _ (both-first c₁ (both c₂ (both c₃ (both c₄ (both c₅ (both c₆ c₇))))) e);
       offset = eqb-true _ _ (both-first c₂ (both c₃ (both c₄ (both c₅ (both c₆ c₇)))) r₂);
-      positive = leb-true _ _ (both-first (leb 1 (nextIdentifier l)) (leb (nextIdentifier l) lastIdentifier) range);
-      next = leb-true _ _ (both-second (leb 1 (nextIdentifier l)) (leb (nextIdentifier l) lastIdentifier) range);
+      positive = leb-true _ _ (both-first (leb 1 (nextIdentifier l)) (leb (nextIdentifier l) identifierLimit) range);
+      next = leb-true _ _ (both-second (leb 1 (nextIdentifier l)) (leb (nextIdentifier l) identifierLimit) range);
       size = eqb-true _ _ (both-first c₄ (both c₅ (both c₆ c₇)) r₄);
       capacity = eqb-true _ _ (both-first c₅ (both c₆ c₇) r₅);
       rows = leb-true _ _ (both-first c₆ c₇ r₆);

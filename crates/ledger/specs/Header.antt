@@ -1,6 +1,8 @@
 -- Document 01, 'The ledger': the header, and when it is right (verdict 3).
-use Prim.Native.Nat.{ℕ, _-_, _/_, min}
-use mathlib.Core.Bool.{Bool}
+use Prim.Native.Nat.{ℕ, _-_, _/_, _≤_, min}
+use Prim.Native.String.{String}
+use mathlib.Core.Bool.{Bool, true}
+use mathlib.Core.Path.{_≡_}
 use mathlib.Core.List.{List, [], _∷_, _++_}
 use lib.ListN.{length}
 use lib.Dec.{eqb, leb}
@@ -11,7 +13,7 @@ use Rattle.octets.specs.Same.{beside}
 use Rattle.octets.specs.Fields.{FieldAt, bytesOf}
 use Rattle.values.specs.Run.{within}
 use Rattle.notional.specs.Masking.{isCap}
-use Rattle.ledger.specs.Layout.{u32, u64, rowsAt, firstRowAt, nextAt, capAt, rowSizeAt, capacityAt, headerSize, rowSize, shortestLedger, lastIdentifier}
+use Rattle.ledger.specs.Layout.{u32, u64, rowsAt, firstRowAt, nextAt, capAt, rowSizeAt, capacityAt, headerSize, rowSize, shortestLedger, identifierLimit}
 use Rattle.ledger.specs.declared.header.Caps.{Caps}
 use Rattle.ledger.specs.declared.header.Header.{Header}
 use Rattle.ledger.specs.declared.header.HeaderCheck.{HeaderCheck}
@@ -42,9 +44,13 @@ capacityIn l = fromLe (part l capacityAt u32)
 
 -- ---- caps
 
--- each asset class has one cap; a value that is no class has none
+-- each asset class has one cap
+abbrev pub classCaps : Caps → List (String × ℕ)
+classCaps caps = ("CR", caps .cr) ∷ ("IR", caps .ir) ∷ ("FX", caps .fx) ∷ ("EQ", caps .eq) ∷ ("CO", caps .co) ∷ []
+
+-- a value that is no class has none
 unfoldable pub capFor : Caps → List ℕ → ℕ
-capFor caps v = beside (("CR", caps .cr) ∷ ("IR", caps .ir) ∷ ("FX", caps .fx) ∷ ("EQ", caps .eq) ∷ ("CO", caps .co) ∷ []) 0 v
+capFor caps v = beside (classCaps caps) 0 v
 
 -- each cap is in its range and its own rounded amount (verdict 2)
 unfoldable pub areCaps : Caps → Bool
@@ -61,10 +67,21 @@ unfoldable pub headerRight : ℕ → List ℕ → Bool
 headerRight largest l =
     both (leb shortestLedger (length l))
     (both (eqb (firstRow l) headerSize)
-    (both (within 1 lastIdentifier (nextIdentifier l))
+    (both (within 1 identifierLimit (nextIdentifier l))
     (both (eqb (sizeOfRows l) rowSize)
     (both (eqb (capacityIn l) (capacityFor largest (length l)))
     (both (leb (rowsInUse l) (capacityIn l)) (areCaps (capsIn l)))))))
+
+-- the same, clause by clause
+pub record RightHeader (largest : ℕ) (l : List ℕ) : Type 0 where
+  pub long : shortestLedger ≤ length l
+  pub offset : firstRow l ≡ headerSize
+  pub positive : 1 ≤ nextIdentifier l
+  pub next : nextIdentifier l ≤ identifierLimit
+  pub size : sizeOfRows l ≡ rowSize
+  pub capacity : capacityIn l ≡ capacityFor largest (length l)
+  pub rows : rowsInUse l ≤ capacityIn l
+  pub caps : areCaps (capsIn l) ≡ true
 
 -- the numbers of a header that a submission goes on with
 unfoldable pub headerOf : List ℕ → Header

@@ -84,8 +84,8 @@ abbrev pub shortestLedger : ℕ
 shortestLedger = rowStart 1
 
 -- identifiers are given up to the one before this
-abbrev pub lastIdentifier : ℕ
-lastIdentifier = 1_000_000_000_000
+abbrev pub identifierLimit : ℕ
+identifierLimit = 1_000_000_000_000
 
 -- ---- the tape line
 
@@ -93,9 +93,10 @@ lastIdentifier = 1_000_000_000_000
 abbrev pub identifierDigits : ℕ
 identifierDigits = 12
 
--- a line ends with the newline: 146 bytes
+-- a line ends with the newline
 abbrev pub newline : ℕ
 newline = 10
 
+-- 146 bytes
 abbrev pub lineSize : ℕ
 lineSize = termsEnd + 1

@@ -98,6 +98,10 @@ rowAfter Eror status u identifier terms r = withIdentifier identifier (withStatu
 rowAfter Revi status u identifier terms r = withTerms terms (withIdentifier identifier (withStatus status r))
 rowAfter Prto status u identifier terms r = withStatus status r
 
+-- a row is written through its own part of the ledger
+abbrev pub rowsAfter : Action → ℕ → List ℕ → ℕ → List ℕ → ℕ → List ℕ → List ℕ
+rowsAfter a status u identifier terms k l = splice l (rowStart k) (rowAfter a status u identifier terms (rowAt l k))
+
 -- ---- what is written of the header
 
 unfoldable pub withRows : ℕ → List ℕ → List ℕ

@@ -8,8 +8,8 @@ use crate::layout::EQ_AT;
 use crate::layout::FIRST_ROW_AT;
 use crate::layout::FX_AT;
 use crate::layout::HEADER_SIZE;
+use crate::layout::IDENTIFIER_LIMIT;
 use crate::layout::IR_AT;
-use crate::layout::LAST_IDENTIFIER;
 use crate::layout::NEXT_AT;
 use crate::layout::ROW_SIZE;
 use crate::layout::ROW_SIZE_AT;
@@ -136,7 +136,7 @@ fn is_right(l: &[u8], largest: u32, h: Header) -> bool
     if h.next < 1 {
         return false;
     }
-    if LAST_IDENTIFIER < h.next {
+    if IDENTIFIER_LIMIT < h.next {
         return false;
     }
     if read_at(l, ROW_SIZE_AT, U32) != ROW_SIZE as u64 {

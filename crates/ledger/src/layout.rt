@@ -54,7 +54,7 @@ pub const ROW_SIZE: usize = TAIL_AT + TAIL_SIZE;
 pub const SHORTEST_LEDGER: usize = HEADER_SIZE + ROW_SIZE;
 
 // Identifiers are given up to the one before this.
-pub const LAST_IDENTIFIER: u64 = 1_000_000_000_000;
+pub const IDENTIFIER_LIMIT: u64 = 1_000_000_000_000;
 
 // The tape line.
 pub const IDENTIFIER_DIGITS: usize = 12;

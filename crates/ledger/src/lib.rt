@@ -14,7 +14,7 @@ pub use header::cap_for;
 pub use header::capacity_for;
 pub use header::read_header;
 pub use layout::HEADER_SIZE;
-pub use layout::LAST_IDENTIFIER;
+pub use layout::IDENTIFIER_LIMIT;
 pub use layout::NEXT_AT;
 pub use layout::ROW_SIZE;
 pub use layout::ROWS_AT;

@@ -23,10 +23,11 @@ use octets::field_at;
 use octets::fill_at;
 use terms::SIZE;
 use terms::TIME_SIZE;
-use values::EVENT_SIZE;
 
-// The length of an action's code.
+// The lengths of an action and of an event in the line.
 const ACTION_SIZE: usize = 4;
+
+const EVENT_SIZE: usize = 4;
 
 // Where each field starts in the line.
 const DISSEMINATION_AT: usize = 0;
@@ -39,9 +40,9 @@ const EVENT_AT: usize = ACTION_AT + ACTION_SIZE;
 
 const TIME_AT: usize = EVENT_AT + EVENT_SIZE;
 
-const TERMS_AT: usize = TIME_AT + TIME_SIZE;
+const TERMS_START: usize = TIME_AT + TIME_SIZE;
 
-const NEWLINE_AT: usize = TERMS_AT + SIZE;
+const NEWLINE_AT: usize = TERMS_START + SIZE;
 
 // The size of the line.
 pub const LINE_SIZE: usize = NEWLINE_AT + U8;
@@ -76,7 +77,7 @@ fn write_fields(dst: &mut [u8], a: Action, identifier: u64, previous: u64, m: &[
     element_at(dst, ACTION_AT, ACTION_SIZE, m, ACTION_CODE as u16);
     element_at(dst, EVENT_AT, EVENT_SIZE, m, EVENT_TYPE);
     element_at(dst, TIME_AT, TIME_SIZE, m, EVENT_TIME);
-    copy_at(dst, TERMS_AT, terms);
+    copy_at(dst, TERMS_START, terms);
     fill_at(dst, NEWLINE_AT, U8, NEWLINE);
 }
 

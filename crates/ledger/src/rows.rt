@@ -3,11 +3,10 @@ ghost use mathlib.Core.Path.{_≡_};
 ghost use Prim.Native.Nat.{_+_, _^_, _<_, _≤_};
 ghost use lib.ListN.{length};
 ghost use Rattle.octets.specs.Choice.{choose};
-ghost use Rattle.octets.specs.Part.{splice};
 ghost use Rattle.actions.specs.Actions.{isNew, writesLine};
 ghost use Rattle.terms.specs.Terms.{termsSize};
-ghost use Rattle.ledger.specs.Layout.{u32, utiSize, rowSize, rowStart, headerSize, lastIdentifier};
-ghost use Rattle.ledger.specs.Rows.{newRow, withStatus, withIdentifier, withTerms, rowAfter, rowAt, withRows, withNext, headerAfter};
+ghost use Rattle.ledger.specs.Layout.{u32, utiSize, rowSize, rowStart, headerSize, identifierLimit};
+ghost use Rattle.ledger.specs.Rows.{newRow, withStatus, withIdentifier, withTerms, rowAfter, rowsAfter, withRows, withNext, headerAfter};
 use crate::layout::HEADER_SIZE;
 use crate::layout::IDENTIFIER_AT;
 use crate::layout::LENGTH_AT;
@@ -97,7 +96,7 @@ pub fn store_row(
     terms: &[u8],
 )
     requires { ⌜ (rowStart (k + 1) ≤ length (now l)) × (length (now uti) ≤ utiSize) × (length (now terms) ≡ termsSize) ⌝ }
-    ensures { λ _. ⌜ now (l .exit) ≡ splice (now (l .entry)) (rowStart k) (rowAfter a status (now (uti .entry)) identifier (now (terms .entry)) (rowAt (now (l .entry)) k)) ⌝ }
+    ensures { λ _. ⌜ now (l .exit) ≡ rowsAfter a status (now (uti .entry)) identifier (now (terms .entry)) k (now (l .entry)) ⌝ }
 {
     let start = HEADER_SIZE + k * ROW_SIZE;
     let end = start + ROW_SIZE;
@@ -116,7 +115,7 @@ fn raise_rows(l: &mut [u8], a: Action, rows: u64)
 
 // Each line raises the next identifier by one.
 fn raise_next(l: &mut [u8], a: Action, next: u64)
-    requires { ⌜ (headerSize ≤ length (now l)) × (next ≤ lastIdentifier) ⌝ }
+    requires { ⌜ (headerSize ≤ length (now l)) × (next ≤ identifierLimit) ⌝ }
     ensures { λ _. ⌜ now (l .exit) ≡ choose (writesLine a) (withNext (next + 1) (now (l .entry))) (now (l .entry)) ⌝ }
 {
     if writes_line(a) {
@@ -126,7 +125,7 @@ fn raise_next(l: &mut [u8], a: Action, next: u64)
 
 // What the action writes of the header.
 pub fn update_header(l: &mut [u8], a: Action, rows: u64, next: u64)
-    requires { ⌜ (headerSize ≤ length (now l)) × (rows < 256 ^ u32) × (next ≤ lastIdentifier) ⌝ }
+    requires { ⌜ (headerSize ≤ length (now l)) × (rows < 256 ^ u32) × (next ≤ identifierLimit) ⌝ }
     ensures { λ _. ⌜ now (l .exit) ≡ headerAfter a rows next (now (l .entry)) ⌝ }
 {
     raise_rows(l, a, rows);

@@ -1,5 +1,5 @@
 -- Document 01, 'The masked notional': the exact amount that a value spells.
-use Prim.Native.Nat.{ℕ, _+_, _-_, _*_}
+use Prim.Native.Nat.{ℕ, _+_, _-_, _*_, _^_}
 use Prim.Native.Char.{code}
 use mathlib.Core.List.{List, [], _∷_, _++_}
 use lib.ListN.{take, replicate}
@@ -10,7 +10,7 @@ use Rattle.numbers.specs.Numbers.{wholeOf, decimalsOf, notionalDecimals}
 
 -- a unit of the notional currency, in units of 10^-5
 abbrev pub unit : ℕ
-unit = 100_000
+unit = 10 ^ notionalDecimals
 
 -- the number of a digit; what is no digit counts 0
 unfoldable pub digit : ℕ → ℕ

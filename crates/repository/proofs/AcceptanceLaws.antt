@@ -13,7 +13,7 @@ use Rattle.octets.proofs.SearchLaws.{first-most}
 use Rattle.actions.specs.declared.Action.{Action}
 use Rattle.actions.specs.declared.Checked.{Checked}
 use Rattle.actions.specs.declared.Checked.the-variants as checked
-use Rattle.actions.specs.Actions.{isFull, isNew, writesLine}
+use Rattle.actions.specs.Actions.{isFull, isNew}
 use Rattle.actions.specs.Statuses.{nextStatus}
 use Rattle.notional.specs.Masking.{largestCap}
 use Rattle.ledger.specs.Layout.{u32, utiSize, rowStart}
@@ -25,7 +25,7 @@ use Rattle.ledger.specs.Line.{line}
 use Rattle.ledger.proofs.HeaderLaws.{cap-for-largest}
 use Rattle.ledger.proofs.RightHeader.{rows-fit, capacity-most}
 use Rattle.submission.specs.Opening.{Limits}
-use Rattle.submission.specs.Submission.{Submitted, swapOf, actionIn, verdictOn, maskedTerms, termsFor, placeFor, rowFor, ledgerFor, lineFor, accepted, refused, concluded, submitted}
+use Rattle.submission.specs.Submission.{Submitted, swapOf, actionIn, verdictOn, maskedTerms, termsFor, placeFor, rowFor, ledgerFor, lineFor, tapeFor, accepted, refused, concluded, submitted}
 use Rattle.submission.proofs.Acceptance.{Accepting, accepting, Fits, fits}
 use Rattle.repository.specs.declared.swap.Swap.{Swap}
 use Rattle.repository.specs.declared.decide.Acceptance.{Acceptance}
@@ -55,7 +55,7 @@ uti-fits u v h e = rw e h
 -- what ledger and tape buffer hold after a decision
 abbrev pub Leaves : Decision → List ℕ → List ℕ → List ℕ → Submitted → Type 0
 Leaves (Refused v e) l t m s = (s .ledger ≡ l) × (s .tape ≡ t)
-Leaves (Value acceptance) l t m s = (s .ledger ≡ ledgerFor (acceptance .action) l m) × (s .tape ≡ choose (writesLine (acceptance .action)) (splice t 0 (lineFor (acceptance .action) l m)) t)
+Leaves (Value acceptance) l t m s = (s .ledger ≡ ledgerFor (acceptance .action) l m) × (s .tape ≡ tapeFor (acceptance .action) l t m)
 
 module _ (v : ℕ × ℕ) (l t m : List ℕ) where
   same-answer : (r : Checked) → decisionAnswer (decided v r l m) ≡ submissionAnswer (concluded v r l t m)

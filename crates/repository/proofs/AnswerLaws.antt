@@ -3,7 +3,7 @@ use Prim.Native.Nat.{ℕ, _+_, _*_, _/_, _%_, _<_}
 use mathlib.Core.Path.{_≡_, ap, _∙_}
 use native.Mathlib.Nat.{zero-add, mod-eq-of-lt, div-eq-of-lt, add-mul-mod-self-right, add-mul-div-right}
 use native.Mathlib.Omega.{arith}
-use Rattle.repository.specs.Answers.{answerOf, byte, elementUnit, statusUnit, identifierUnit, packed, answerIn, Number-carries}
+use Rattle.repository.specs.Answers.{answerWith, byte, elementUnit, statusUnit, identifierUnit, packed, answerIn, Number-carries}
 
 -- a number below a unit beside a multiple of the unit
 low : (r x u : ℕ) → r < u → (r + x * u) % u ≡ r
@@ -13,7 +13,7 @@ high : (r x u : ℕ) → r < u → (r + x * u) / u ≡ x
 high r x u h = add-mul-div-right r x (omega arith) ∙ ap (λ q. q + x) (div-eq-of-lt h) ∙ zero-add x
 
 -- each field is recovered from the number
-pub recovered : (v e s i : ℕ) → v < byte → e < byte → s < byte → answerIn (packed (answerOf v e s i)) ≡ answerOf v e s i
+pub recovered : (v e s i : ℕ) → v < byte → e < byte → s < byte → answerIn (packed (answerWith v e s i)) ≡ answerWith v e s i
 unfolding packed answerIn
 recovered v e s i hv he hs =
     let n : ℕ = v + e * elementUnit + s * statusUnit + i * identifierUnit in

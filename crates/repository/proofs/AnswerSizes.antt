@@ -11,7 +11,7 @@ use Rattle.octets.proofs.ChoiceLaws.{both-second, both-false, not-not}
 use Rattle.values.specs.Run.{within}
 use Rattle.actions.specs.Actions.{writesLine}
 use Rattle.actions.specs.Statuses.{live, ported}
-use Rattle.ledger.specs.Layout.{u32, lastIdentifier}
+use Rattle.ledger.specs.Layout.{u32, identifierLimit}
 use Rattle.ledger.specs.Header.{nextIdentifier, headerRight}
 use Rattle.ledger.specs.Rows.{statusOf, identifierOf, isKnown, swapRow, swapIdentifier}
 use Rattle.ledger.proofs.RightHeader.{right-header}
@@ -23,34 +23,34 @@ use Rattle.submission.proofs.Demand2.{question-exactly}
 use Rattle.repository.specs.declared.answer.Answer.{Answer}
 use Rattle.repository.specs.declared.decide.Decision.{Decision}
 use Rattle.repository.specs.declared.decide.Decision.the-variants.{Refused, Value}
-use Rattle.repository.specs.Answers.{identifierLimit}
+use Rattle.repository.specs.Answers.{carriedLimit}
 use Rattle.repository.specs.Decision.{decision, decisionAnswer}
 use Rattle.repository.proofs.AcceptanceLaws.{decision-answers, fitting}
 
-pub carried : (a b : Answer) → a ≡ b → b .identifier < identifierLimit → a .identifier < identifierLimit
+pub carried : (a b : Answer) → a ≡ b → b .identifier < carriedLimit → a .identifier < carriedLimit
 carried a b e h = rw e h
 
 -- a submission answers the next identifier or 0
-pub submission-small : (limits : Limits) (l t m : List ℕ) → limits .largest < 256 ^ u32 → submitted limits l t m .identifier < identifierLimit
+pub submission-small : (limits : Limits) (l t m : List ℕ) → limits .largest < 256 ^ u32 → submitted limits l t m .identifier < carriedLimit
 submission-small limits l t m small = by (decision limits l t m) refl
   where
     is : (d : Decision) → decision limits l t m ≡ d → submitted limits l t m .identifier ≡ decisionAnswer d .identifier
     is d e = sym (ap (λ (a : Answer). a .identifier) (decision-answers limits l t m)) ∙ ap (λ x. decisionAnswer x .identifier) e
 
-    least : (b : Bool) (n : ℕ) → n ≤ lastIdentifier → choose b n 0 ≤ lastIdentifier
+    least : (b : Bool) (n : ℕ) → n ≤ identifierLimit → choose b n 0 ≤ identifierLimit
     least true n h = h
     least false n h = omega arith
 
-    by : (d : Decision) → decision limits l t m ≡ d → submitted limits l t m .identifier < identifierLimit
+    by : (d : Decision) → decision limits l t m ≡ d → submitted limits l t m .identifier < carriedLimit
     by (Refused v e) g = omega (arith, is (Refused v e) g)
     by (Value s) g = omega (arith, is (Value s) g, least (writesLine (s .action)) (s .next) (fitting limits l t m s small g .next))
 
 -- a right row has an identifier below the next one
-swap-small : (largest : ℕ) (l u : List ℕ) → headerRight largest l ≡ true → hasWrongRow l u ≡ false → swapIdentifier l u ≤ lastIdentifier
+swap-small : (largest : ℕ) (l u : List ℕ) → headerRight largest l ≡ true → hasWrongRow l u ≡ false → swapIdentifier l u ≤ identifierLimit
 unfolding swapIdentifier hasWrongRow rowRight
 swap-small largest l u h w = by (isKnown l u) refl
   where
-    by : (b : Bool) → isKnown l u ≡ b → choose b (identifierOf (swapRow l u)) 0 ≤ lastIdentifier
+    by : (b : Bool) → isKnown l u ≡ b → choose b (identifierOf (swapRow l u)) 0 ≤ identifierLimit
     by false k = omega arith
     by true k =
         let i : ℕ = identifierOf (swapRow l u) in
@@ -59,10 +59,10 @@ swap-small largest l u h w = by (isKnown l u) refl
         omega (arith, leb-true i (nextIdentifier l - 1) (both-second (leb 1 i) (leb i (nextIdentifier l - 1)) range), right-header largest l h .next)
 
 -- the status question answers the swap's last identifier or 0
-pub question-small : (limits : Limits) (l u : List ℕ) → asked limits l u .identifier < identifierLimit
+pub question-small : (limits : Limits) (l u : List ℕ) → asked limits l u .identifier < carriedLimit
 question-small limits l u = by (asked limits l u .verdict) refl
   where
-    by : (v : ℕ) → asked limits l u .verdict ≡ v → asked limits l u .identifier < identifierLimit
+    by : (v : ℕ) → asked limits l u .verdict ≡ v → asked limits l u .identifier < carriedLimit
     by zero e =
         let q = question-exactly limits l u in
         let fits = q .0 .accepted .0 e in

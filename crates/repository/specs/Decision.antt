@@ -14,7 +14,7 @@ use Rattle.actions.specs.Statuses.{nextStatus}
 use Rattle.rules.specs.declared.Judged.{Judged}
 use Rattle.rules.specs.declared.Judged.the-variants as judged
 use Rattle.rules.specs.Findings.{firstBroken}
-use Rattle.ledger.specs.Layout.{u32, utiSize, rowStart, lineSize, lastIdentifier}
+use Rattle.ledger.specs.Layout.{u32, utiSize, rowStart, lineSize, identifierLimit}
 use Rattle.ledger.specs.Header.{rowsInUse, nextIdentifier, capsIn, areCaps}
 use Rattle.ledger.specs.Rows.{placeOf, swapStatus, swapIdentifier}
 use Rattle.submission.specs.Opening.{Limits}
@@ -26,7 +26,7 @@ use Rattle.repository.specs.declared.swap.SwapCheck.the-variants as foun
 use Rattle.repository.specs.declared.decide.Acceptance.{Acceptance}
 use Rattle.repository.specs.declared.decide.Decision.{Decision}
 use Rattle.repository.specs.declared.decide.Decision.the-variants.{Refused, Value}
-use Rattle.repository.specs.Answers.{answerOf, refusalAnswer}
+use Rattle.repository.specs.Answers.{answerWith, refusalAnswer}
 
 -- ---- the swap
 
@@ -73,7 +73,7 @@ refusedAs (judged.Value a) = Refused 0 0
 -- what a decision answers: the identifier is 0 under every refusal and where no line is written
 abbrev pub decisionAnswer : Decision → Answer
 decisionAnswer (Refused v e) = refusalAnswer v e
-decisionAnswer (Value s) = answerOf 0 0 0 (choose (writesLine (s .action)) (s .next) 0)
+decisionAnswer (Value s) = answerWith 0 0 0 (choose (writesLine (s .action)) (s .next) 0)
 
 -- ---- what the writes of an acceptance need, so that they cannot fail
 
@@ -85,5 +85,5 @@ pub record Fitting (l t m : List ℕ) (s : Acceptance) : Type 0 where
   pub place : placeFor (s .action) l m ≡ s .place
   pub row : rowStart (s .place + 1) ≤ length l
   pub rows : s .rows < 256 ^ u32
-  pub next : s .next ≤ lastIdentifier
+  pub next : s .next ≤ identifierLimit
   pub caps : areCaps (s .caps) ≡ true

@@ -1,7 +1,7 @@
 // The answer of an operation, and the one number that carries it to a C host.
 ghost use Prim.Native.Nat.{_<_};
 ghost use mathlib.Core.Path.{_≡_};
-ghost use Rattle.repository.specs.Answers.{identifierLimit, answerOf, refusalAnswer, packed, answerIn};
+ghost use Rattle.repository.specs.Answers.{carriedLimit, answerWith, refusalAnswer, packed, answerIn};
 
 // Where element, status and identifier start in the number, as the factor of each.
 const ELEMENT: u64 = 256;
@@ -32,8 +32,8 @@ pub fn refusal(verdict: u8, element: u8) -> Answer
 
 // The number that carries an answer.
 pub fn pack(verdict: u8, element: u8, status: u8, identifier: u64) -> u64
-    requires { ⌜ identifier < identifierLimit ⌝ }
-    ensures { λ r. ⌜ (r ≡ packed (answerOf verdict element status identifier)) × (answerIn r ≡ answerOf verdict element status identifier) ⌝ }
+    requires { ⌜ identifier < carriedLimit ⌝ }
+    ensures { λ r. ⌜ (r ≡ packed (answerWith verdict element status identifier)) × (answerIn r ≡ answerWith verdict element status identifier) ⌝ }
 {
     (verdict as u64)
         + (element as u64) * ELEMENT

@@ -1,17 +1,16 @@
-// What an accepted message writes. It cannot fail.
+// What an accepted message writes: document 01, 'The ledger' and 'The tape line'. It cannot fail.
 ghost use Prim.Native.Nat.{_+_, _≤_};
 ghost use mathlib.Core.Bool.{true};
 ghost use mathlib.Core.Path.{_≡_};
 ghost use lib.ListN.{length};
 ghost use Rattle.octets.specs.Choice.{choose};
-ghost use Rattle.octets.specs.Part.{splice};
-ghost use Rattle.actions.specs.Actions.{isFull, writesLine};
+ghost use Rattle.actions.specs.Actions.{isFull};
 ghost use Rattle.terms.specs.Terms.{termsSize};
 ghost use Rattle.ledger.specs.Layout.{rowStart, lineSize};
 ghost use Rattle.ledger.specs.Header.{areCaps};
 ghost use Rattle.ledger.specs.Rows.{rowAt, storedTerms};
 ghost use Rattle.ledger.specs.Line.{line};
-ghost use Rattle.submission.specs.Submission.{maskedTerms, ledgerFor, lineFor};
+ghost use Rattle.submission.specs.Submission.{maskedTerms, ledgerFor, tapeAfter, tapeFor};
 ghost use Rattle.repository.specs.Decision.{Fitting};
 use crate::decide::Acceptance;
 use actions::Action;
@@ -45,7 +44,7 @@ fn collect_terms(dst: &mut [u8], l: &[u8], place: usize, a: Action, caps: Caps, 
 // Writes the line where one is due.
 fn publish(tape: &mut [u8], a: Action, identifier: u64, previous: u64, m: &[u8], terms: &[u8])
     requires { ⌜ (lineSize ≤ length (now tape)) × (length (now terms) ≡ termsSize) ⌝ }
-    ensures { λ _. ⌜ now (tape .exit) ≡ choose (writesLine a) (splice (now (tape .entry)) 0 (line a identifier previous (now (m .entry)) (now (terms .entry)))) (now (tape .entry)) ⌝ }
+    ensures { λ _. ⌜ now (tape .exit) ≡ tapeAfter a (line a identifier previous (now (m .entry)) (now (terms .entry))) (now (tape .entry)) ⌝ }
 {
     if writes_line(a) {
         write_line(tape, a, identifier, previous, m, terms);
@@ -56,7 +55,7 @@ fn publish(tape: &mut [u8], a: Action, identifier: u64, previous: u64, m: &[u8],
 pub fn apply(l: &mut [u8], tape: &mut [u8], m: &[u8], acceptance: Acceptance)
     requires { ⌜ Fitting (now l) (now tape) (now m) acceptance ⌝ }
     ensures { λ _. ⌜ now (l .exit) ≡ ledgerFor (acceptance .action) (now (l .entry)) (now (m .entry)) ⌝ }
-    ensures { λ _. ⌜ now (tape .exit) ≡ choose (writesLine (acceptance .action)) (splice (now (tape .entry)) 0 (lineFor (acceptance .action) (now (l .entry)) (now (m .entry)))) (now (tape .entry)) ⌝ }
+    ensures { λ _. ⌜ now (tape .exit) ≡ tapeFor (acceptance .action) (now (l .entry)) (now (tape .entry)) (now (m .entry)) ⌝ }
 {
     let a = acceptance.action;
     let mut terms = [b' '; SIZE];

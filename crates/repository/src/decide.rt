@@ -10,7 +10,7 @@ ghost use Rattle.message.specs.Values.{value};
 ghost use Rattle.actions.specs.Actions.{isNew, writesLine};
 ghost use Rattle.actions.specs.Statuses.{repeatsTime};
 ghost use Rattle.elements.specs.Codes.{executionTime};
-ghost use Rattle.ledger.specs.Layout.{rowStart, lastIdentifier};
+ghost use Rattle.ledger.specs.Layout.{rowStart, identifierLimit};
 ghost use Rattle.ledger.specs.Header.{headerOf};
 ghost use Rattle.ledger.specs.Rows.{rowAt, storedTime};
 ghost use Rattle.repository.specs.Answers.{limitsOf};
@@ -35,7 +35,7 @@ use elements::UTI;
 use ledger::Caps;
 use ledger::Header;
 use ledger::HeaderCheck;
-use ledger::LAST_IDENTIFIER;
+use ledger::IDENTIFIER_LIMIT;
 use ledger::LINE_SIZE;
 use ledger::read_header;
 use ledger::time_at;
@@ -62,7 +62,7 @@ pub enum Decision {
 }
 
 // A refusal under the rules of the message alone.
-fn refused(judged: Judged) -> Decision
+fn refused_as(judged: Judged) -> Decision
     ensures { λ r. ⌜ r ≡ refusedAs judged ⌝ }
 {
     match judged {
@@ -94,12 +94,12 @@ fn finds_full(a: Action, rows: u64, capacity: u64) -> bool
 
 // Whether a line is due and identifiers are spent (18).
 fn finds_spent(a: Action, next: u64) -> bool
-    ensures { λ r. ⌜ r ≡ both (writesLine a) (eqb next lastIdentifier) ⌝ }
+    ensures { λ r. ⌜ r ≡ both (writesLine a) (eqb next identifierLimit) ⌝ }
 {
     if !writes_line(a) {
         return false;
     }
-    next == LAST_IDENTIFIER
+    next == IDENTIFIER_LIMIT
 }
 
 // Rules 14 to 18, for a message that no earlier rule refuses.
@@ -148,7 +148,7 @@ pub fn decide(l: &[u8], tape: &[u8], m: &[u8], longest: usize, largest: u32) -> 
     }
     let judged = judge(m, longest);
     let Judged::Value(action) = judged else {
-        return refused(judged);
+        return refused_as(judged);
     };
     decide_swap(l, m, header, action)
 }

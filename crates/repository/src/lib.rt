@@ -1,4 +1,4 @@
-// The operations of the core: open a ledger, submit a message, ask the status of a swap. A C host reaches them through include/sdr.h.
+// The base's three operations: document 01, 'Verdict numbers': open a ledger, submit a message, ask the status of a swap. A C host reaches them through include/sdr.h.
 mod answer;
 mod apply;
 mod decide;

@@ -5,7 +5,7 @@ use mathlib.Core.Path.{_≡_, refl, sym, ap, _∙_, subst}
 use mathlib.Core.List.{List, [], _∷_, _++_}
 use native.Mathlib.Nat.{not-suc-le-zero, le-of-suc-le-suc}
 use native.Mathlib.Omega.{arith}
-use lib.ListN.{length, getD, drop}
+use lib.ListN.{length, drop}
 use lib.Seq.{drop-cons}
 use lib.Dec.{leb, ltb, eqb}
 use borrow.Author.Tests.{ltb-true, eq-eqb, le-leb, leb-true, leb-false}
@@ -14,18 +14,7 @@ use Rattle.octets.specs.Search.{firstFrom}
 use Rattle.octets.proofs.ChoiceLaws.{both-first, both-second}
 use Rattle.octets.proofs.SearchLaws.{first-passes, first-le, first-from}
 use Rattle.actions.specs.Elements.{lastCode}
-use Rattle.rules.specs.Findings.{Finding, passed, broken, brokenIf, lowest, orElse, firstBroken}
-
--- no rule
-abbrev pub noRule : ℕ × Finding
-noRule = (0, passed)
-
--- the number of the rule at a place, and what it finds
-abbrev pub numberAt : List (ℕ × Finding) → ℕ → ℕ
-numberAt rs i = getD rs i noRule .0
-
-abbrev pub findingAt : List (ℕ × Finding) → ℕ → Finding
-findingAt rs i = getD rs i noRule .1
+use Rattle.rules.specs.Findings.{Finding, passed, broken, brokenIf, lowest, orElse, firstBroken, noRule, numberAt, findingAt, FirstBroken, LowestAtFault}
 
 -- ---- a chain of tests, one for each rule: at rule k those before it are passed
 
@@ -46,10 +35,6 @@ not-broken true e =
 not-broken false e = refl
 
 -- ---- the first rule broken
-
--- the rule at a place is broken and names e, and no earlier one is broken
-abbrev pub FirstBroken : List (ℕ × Finding) → ℕ → ℕ → Type 0
-FirstBroken rs i e = (findingAt rs i ≡ broken e) × ((j : ℕ) → j < i → findingAt rs j ≡ passed)
 
 -- no rule has the number n
 unfoldable pub unused : ℕ → List (ℕ × Finding) → Bool
@@ -162,10 +147,6 @@ broken-then (r ∷ rs) after some = by (r .1) some (broken-then rs after)
     by (broken e) g rest = refl
 
 -- ---- the lowest element at fault
-
--- an element is at fault, and no lower one is
-abbrev pub LowestAtFault : (ℕ → Bool) → ℕ → Type 0
-LowestAtFault f e = (1 ≤ e) × (e ≤ lastCode) × (f e ≡ true) × ((code : ℕ) → 1 ≤ code → code < e → f code ≡ false)
 
 module _ (f : ℕ → Bool) where
   -- a code below the first one at fault is not at fault

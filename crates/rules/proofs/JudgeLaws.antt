@@ -10,9 +10,9 @@ use Rattle.actions.specs.declared.Checked.{Checked}
 use Rattle.actions.specs.declared.Checked.the-variants.{Fault, Value}
 use Rattle.rules.specs.declared.Judged.{Judged}
 use Rattle.rules.specs.declared.Judged.the-variants as answer
-use Rattle.rules.specs.Findings.{Finding, passed, broken, brokenIf, firstBroken}
+use Rattle.rules.specs.Findings.{Finding, passed, broken, brokenIf, firstBroken, noRule}
 use Rattle.rules.specs.Rules.{answerOf, rulesOf, conclude}
-use Rattle.rules.proofs.FindingLaws.{noRule, go-on, stop-at}
+use Rattle.rules.proofs.FindingLaws.{go-on, stop-at}
 
 -- a refusal, whether or not there is an action
 pub refuses : (n e : ℕ) (r : Checked) → eqb n 0 ≡ false → conclude (n, e) r ≡ answer.Refused n e

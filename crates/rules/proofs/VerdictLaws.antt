@@ -21,11 +21,11 @@ use Rattle.actions.specs.Elements.{hasLayout}
 use Rattle.elements.specs.Forms.{isRead}
 use Rattle.rules.specs.declared.checks.Check.{Check}
 use Rattle.rules.specs.declared.checks.Check.the-variants.{Needed, Taken, Formed, Due}
-use Rattle.rules.specs.Verdicts.{layoutWrong, noAction, neededMissing, notTaken, formBroken, dueMissing}
-use Rattle.rules.specs.Findings.{passed, broken, brokenIf, lowest, firstBroken}
-use Rattle.rules.specs.Rules.{atFault, finding, rulesOf, rulesFor, rules, verdict, conclude, judged, verdictOf}
+use Rattle.rules.specs.Verdicts.{layoutWrong, noAction}
+use Rattle.rules.specs.Findings.{passed, broken, brokenIf, lowest, firstBroken, numberAt, findingAt, FirstBroken, LowestAtFault}
+use Rattle.rules.specs.Rules.{atFault, numberOf, finding, rulesOf, rulesFor, rules, verdict, conclude, judged, verdictOf}
 use Rattle.rules.proofs.JudgeLaws.{neededAt, takenAt, formedAt, dueAt}
-use Rattle.rules.proofs.FindingLaws.{numberAt, findingAt, unused, distinct, FirstBroken, broken-first, first-broken, all-passed, none-broken, LowestAtFault, lowest-broken}
+use Rattle.rules.proofs.FindingLaws.{unused, distinct, broken-first, first-broken, all-passed, none-broken, lowest-broken}
 
 -- no two rules have the same number, and none has 0
 pub differ : (r : Checked) (longest : ℕ) (m : List ℕ) → distinct (rulesFor r longest m) ≡ true
@@ -45,13 +45,6 @@ verdict-exactly longest m i e h = (broken-first (rules longest m) i e (numbers-d
 pub accepted-exactly : (longest : ℕ) (m : List ℕ) → (verdict longest m .0 ≡ 0 → (i : ℕ) → i < length (rules longest m) → findingAt (rules longest m) i ≡ passed) × (((i : ℕ) → i < length (rules longest m) → findingAt (rules longest m) i ≡ passed) → verdict longest m ≡ (0, 0))
 unfolding verdict
 accepted-exactly longest m = (all-passed (rules longest m) (numbers-differ longest m), none-broken (rules longest m))
-
--- the number of a check in document 01
-abbrev pub numberOf : Check → ℕ
-numberOf Needed = neededMissing
-numberOf Taken = notTaken
-numberOf Formed = formBroken
-numberOf Due = dueMissing
 
 -- ---- the element that a verdict names
 

@@ -41,6 +41,13 @@ atFault Taken a m code = both (isThere code m) (not (takes a code))
 atFault Formed a m code = both (isThere code m) (not (hasForm code (value code m)))
 atFault Due a m code = both (isDue code m) (not (isThere code m))
 
+-- the number of a check
+abbrev pub numberOf : Check → ℕ
+numberOf Needed = neededMissing
+numberOf Taken = notTaken
+numberOf Formed = formBroken
+numberOf Due = dueMissing
+
 -- a price with notation 3 has at most 11 digits, 10 after the point (12)
 abbrev pub notationThreeDigits : ℕ
 notationThreeDigits = 11

@@ -1,4 +1,4 @@
-// Verdicts 5 to 13: what is judged of a message alone.
+// Verdicts 5 to 13: document 01, 'Verdict numbers', what is judged of a message alone.
 mod checks;
 mod verdicts;
 
@@ -30,7 +30,7 @@ pub enum Judged {
 }
 
 // A refusal that names the element at fault.
-fn refused(verdict: u8, c: Checked) -> Judged
+fn refused_by(verdict: u8, c: Checked) -> Judged
     ensures { λ r. ⌜ r ≡ refusedBy verdict c ⌝ }
 {
     match c {
@@ -48,26 +48,26 @@ pub fn judge(m: &[u8], longest: usize) -> Judged
     }
     let read = actions::read_action(element(m, ACTION_CODE as u16));
     let Checked::Value(action) = read else {
-        return refused(NO_ACTION, read);
+        return refused_by(NO_ACTION, read);
     };
     let needed = lowest_fault(m, action, Check::Needed);
     let Checked::Value(action) = needed else {
-        return refused(NEEDED_MISSING, needed);
+        return refused_by(NEEDED_MISSING, needed);
     };
     let taken = lowest_fault(m, action, Check::Taken);
     let Checked::Value(action) = taken else {
-        return refused(NOT_TAKEN, taken);
+        return refused_by(NOT_TAKEN, taken);
     };
     let formed = lowest_fault(m, action, Check::Formed);
     let Checked::Value(action) = formed else {
-        return refused(FORM_BROKEN, formed);
+        return refused_by(FORM_BROKEN, formed);
     };
     if !actions::is_pair(action, element(m, EVENT_TYPE)) {
         return Judged::Refused(NOT_PAIR, 0);
     }
     let due = lowest_fault(m, action, Check::Due);
     let Checked::Value(action) = due else {
-        return refused(DUE_MISSING, due);
+        return refused_by(DUE_MISSING, due);
     };
     if is_price_too_long(m) {
         return Judged::Refused(PRICE_LONG, 0);

@@ -21,14 +21,14 @@ use Rattle.elements.specs.Codes.{uti}
 use Rattle.message.specs.Values.{isThere}
 use Rattle.elements.specs.Forms.{formOf, hasForm}
 use Rattle.rules.specs.declared.checks.Check.the-variants.{Needed, Formed}
-use Rattle.rules.specs.Findings.{passed, broken, firstBroken}
+use Rattle.rules.specs.Findings.{passed, broken, firstBroken, noRule, findingAt}
 use Rattle.rules.specs.Rules.{rulesFor, rulesOf, atFault}
 use Rattle.rules.proofs.JudgeLaws.{neededAt, formedAt, orderAt}
-use Rattle.rules.proofs.FindingLaws.{noRule, not-broken, findingAt, unused, distinct, all-passed, lowest-passed}
-use Rattle.ledger.specs.Layout.{utiSize, lineSize, lastIdentifier}
-use Rattle.ledger.specs.Header.{rowsInUse, nextIdentifier, capacityIn, headerRight}
+use Rattle.rules.proofs.FindingLaws.{not-broken, unused, distinct, all-passed, lowest-passed}
+use Rattle.ledger.specs.Layout.{utiSize, lineSize, identifierLimit}
+use Rattle.ledger.specs.Header.{rowsInUse, nextIdentifier, capacityIn, headerRight, RightHeader}
 use Rattle.ledger.specs.Rows.{statusOf, placeOf, isKnown, swapRow, swapStatus}
-use Rattle.ledger.proofs.RightHeader.{RightHeader, right-header}
+use Rattle.ledger.proofs.RightHeader.{right-header}
 use Rattle.submission.specs.Opening.{Limits}
 use Rattle.submission.specs.Submission.{swapOf, actionIn, rowRight, hasWrongRow, isNotAdmitted, hasOtherTime, findsFull, findsSpent, swapRules, submissionRules, verdictOn, placeFor, accepted, refused, concluded, submitted}
 
@@ -156,7 +156,7 @@ module _ (limits : Limits) (l t m : List ℕ) (a : Action) (passes : (i : ℕ) �
   unfolding submissionRules rulesFor rulesOf swapRules findsFull
   room-test = not-broken _ (passes roomPlace (lit< tt))
 
-  pub spent-test : both (writesLine a) (eqb (nextIdentifier l) lastIdentifier) ≡ false
+  pub spent-test : both (writesLine a) (eqb (nextIdentifier l) identifierLimit) ≡ false
   unfolding submissionRules rulesFor rulesOf swapRules findsSpent
   spent-test = not-broken _ (passes spentPlace (lit< tt))
 

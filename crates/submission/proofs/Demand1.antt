@@ -1,5 +1,5 @@
 -- Demand 1. Assumes nothing.
-use Prim.Native.Nat.{ℕ, zero, suc, _<_, _≤_}
+use Prim.Native.Nat.{ℕ, zero, suc, _≤_}
 use mathlib.Core.Bool.{Bool, true, false, not}
 use mathlib.Core.Path.{_≡_, refl, sym, ap, _∙_}
 use mathlib.Core.List.{List, [], _∷_}
@@ -21,10 +21,10 @@ use Rattle.rules.specs.declared.checks.Check.{Check}
 use Rattle.rules.specs.declared.checks.Check.the-variants.{Needed, Taken, Formed, Due}
 use Rattle.rules.specs.Verdicts.{noAction, formBroken}
 use Rattle.rules.specs.Findings.{Finding, passed, broken, brokenIf, lowest, orElse, firstBroken}
-use Rattle.rules.specs.Rules.{finding, atFault, priceTooLong, outOfOrder, rulesFor, rulesOf}
+use Rattle.rules.specs.Rules.{finding, atFault, priceTooLong, outOfOrder, rulesFor, rulesOf, numberOf}
 use Rattle.rules.proofs.JudgeLaws.{neededAt, takenAt, formedAt, dueAt}
 use Rattle.rules.proofs.FindingLaws.{unused, not-verdict, broken-first, lowest-broken}
-use Rattle.rules.proofs.VerdictLaws.{numberOf, of-test, action-at-fault}
+use Rattle.rules.proofs.VerdictLaws.{of-test, action-at-fault}
 use Rattle.ledger.specs.Layout.{shortestLedger, lineSize}
 use Rattle.ledger.specs.Header.{areCaps, capacityFor, headerRight, newHeader}
 use Rattle.submission.specs.Verdicts.{ledgerShort, capWrong, ledgerWrong, rowWrong, identifiersSpent}

@@ -28,11 +28,11 @@ use Rattle.actions.proofs.KindLaws.{is-newt}
 use Rattle.elements.specs.Codes.{uti, executionTime}
 use Rattle.elements.specs.Forms.{hasForm}
 use Rattle.rules.specs.Verdicts.{formBroken}
-use Rattle.rules.specs.Findings.{Finding, passed, broken, brokenIf, firstBroken}
+use Rattle.rules.specs.Findings.{Finding, passed, broken, brokenIf, firstBroken, numberAt, findingAt}
 use Rattle.rules.specs.Rules.{rulesFor, rulesOf, verdict}
-use Rattle.rules.proofs.FindingLaws.{numberAt, findingAt, broken-first, first-broken, none-broken, passed-then}
+use Rattle.rules.proofs.FindingLaws.{broken-first, first-broken, none-broken, passed-then}
 use Rattle.rules.proofs.VerdictLaws as message
-use Rattle.ledger.specs.Layout.{u32, u64, rowsAt, nextAt, lengthAt, identifierAt, headerSize, rowSize, rowStart, shortestLedger, lineSize, lastIdentifier}
+use Rattle.ledger.specs.Layout.{u32, u64, rowsAt, nextAt, lengthAt, identifierAt, headerSize, rowSize, rowStart, shortestLedger, lineSize, identifierLimit}
 use Rattle.ledger.specs.Header.{rowsInUse, nextIdentifier, capacityIn, capsIn, areCaps, capacityFor, headerRight}
 use Rattle.ledger.specs.Rows.{rowAt, statusOf, identifierOf, storedTerms, storedTime, isKnown, swapRow, swapStatus, swapIdentifier, newRow, rowAfter}
 use Rattle.ledger.specs.Line.{lineFields, line}
@@ -45,7 +45,7 @@ use Rattle.ledger.proofs.LineLaws.{line-in-place, length-line}
 use Rattle.submission.specs.Verdicts.{ledgerShort, capWrong, ledgerWrong, rowWrong}
 use Rattle.submission.specs.Opening.{Limits, openingRules, openingVerdict, opened}
 use Rattle.submission.specs.Status.{statusRules, asked}
-use Rattle.submission.specs.Submission.{submitted, swapOf, actionIn, rowRight, hasWrongRow, isNotAdmitted, hasOtherTime, findsFull, findsSpent, swapRules, submissionRules, rulesOn, verdictOn, maskedTerms, termsFor, placeFor, rowFor, ledgerFor, lineFor}
+use Rattle.submission.specs.Submission.{submitted, swapOf, actionIn, rowRight, hasWrongRow, isNotAdmitted, hasOtherTime, findsFull, findsSpent, swapRules, submissionRules, rulesOn, verdictOn, maskedTerms, termsFor, placeFor, rowFor, ledgerFor, lineFor, tapeFor}
 use Rattle.submission.specs.Demand2.{Verdict-exactly, Checking-order, RightRow, Sound, Accepted-exactly, Outside, LedgerWritten, TapeWritten, Acceptance-writes, OpeningExactly, Opening-exactly, Opening-writes, QuestionExactly, Question-exactly}
 use Rattle.submission.proofs.Acceptance.{numbers-differ, Accepting, accepting, Fits, row-test, status-test, time-test, message-passes, room-test, spent-test}
 use Rattle.submission.proofs.Lookup.{row-whole, length-shown, length-after, ledger-length, new-place, rows-raised, next-raised, row-written}
@@ -144,7 +144,7 @@ module _ (limits : Limits) (l t m : List ℕ) where
     unfolding findsSpent
     identifier-found = by (writesLine (s .action)) refl
       where
-        by : (b : Bool) → writesLine (s .action) ≡ b → both b (eqb (nextIdentifier l) lastIdentifier) ≡ false
+        by : (b : Bool) → writesLine (s .action) ≡ b → both b (eqb (nextIdentifier l) identifierLimit) ≡ false
         by true k = ne-eqb _ _ (s .spare k)
         by false k = refl
 
@@ -248,7 +248,7 @@ module _ (limits : Limits) (l t m : List ℕ) (a : Action) (f : Fits limits l t 
   unfolding lineFor line
   later-bytes = front-later (lineFields a (nextIdentifier l) (swapIdentifier l (swapOf m)) m (termsFor a l m)) lineSize t (line-in-place a (nextIdentifier l) (swapIdentifier l (swapOf m)) m (termsFor a l m))
 
-  tape-written : TapeWritten a l t m (choose (writesLine a) (splice t 0 (lineFor a l m)) t)
+  tape-written : TapeWritten a l t m (tapeFor a l t m)
   tape-written = by (writesLine a) refl
     where
       by : (b : Bool) → writesLine a ≡ b → TapeWritten a l t m (choose b (splice t 0 (lineFor a l m)) t)

@@ -9,8 +9,8 @@ use lib.Dec.{lit<}
 use borrow.Author.Tests.{ltb-true, ltb-false, eq-eqb}
 use Rattle.octets.specs.Part.{splice}
 use Rattle.octets.proofs.ChoiceLaws.{not-not}
-use Rattle.rules.specs.Findings.{passed}
-use Rattle.rules.proofs.FindingLaws.{findingAt, not-broken, unused, distinct, all-passed}
+use Rattle.rules.specs.Findings.{passed, findingAt}
+use Rattle.rules.proofs.FindingLaws.{not-broken, unused, distinct, all-passed}
 use Rattle.ledger.specs.declared.header.Caps.{Caps}
 use Rattle.ledger.specs.Layout.{u32, rowsAt, headerSize, shortestLedger}
 use Rattle.ledger.specs.Header.{rowsInUse, nextIdentifier, capsIn, areCaps, capacityFor, headerRight, newHeader}

@@ -20,8 +20,8 @@ use Rattle.ledger.specs.Line.{lineFields, line}
 use Rattle.submission.specs.Opening.{Limits}
 use Rattle.submission.specs.Submission.{swapOf, actionIn, maskedTerms}
 use Rattle.submission.specs.History.{Call, messageOf, answerTo, ledgerAfter, hasAction, ofKind, publishes, Judgement, judgements}
-use Rattle.submission.specs.Demand3.{messageAt, verdictAt, Accepted, termsAt, SameShown, Alike}
-use Rattle.submission.specs.Published.{published, lastLine, lastMasked, toldTerms, lineBy, toldLine, told}
+use Rattle.submission.specs.Demand3.{messageAt, verdictAt, Accepted, maskedTermsAt, SameShown, Alike}
+use Rattle.submission.specs.Published.{published, lastIdentifier, lastMasked, toldTerms, lineBy, toldLine, told}
 
 -- ---- two messages that show the same
 
@@ -40,7 +40,7 @@ pub record Near (caps : Caps) (js ks : List Judgement) : Type 0 where
   pub swaps : (i j : ℕ) → Accepted js i → Accepted js j → (swapOf (messageAt js i) ≡ swapOf (messageAt js j)) ↔ (swapOf (messageAt ks i) ≡ swapOf (messageAt ks j))
 
 pub near : (caps : Caps) (js ks : List Judgement) → Alike caps js ks → Near caps js ks
-unfolding termsAt
+unfolding maskedTermsAt
 near caps js ks a =
     record {
       lengths = a .lengths;
@@ -78,12 +78,12 @@ abbrev naming : List ℕ → List (List ℕ) → List Bool
 naming u es = map (λ (e : List ℕ). sameBytes (swapOf e) u) es
 
 record Same (caps : Caps) (u v : List ℕ) (es fs : List (List ℕ)) : Type 0 where
-  lines : lastLine u es ≡ lastLine v fs
+  lines : lastIdentifier u es ≡ lastIdentifier v fs
   terms : lastMasked caps u es ≡ lastMasked caps v fs
   long : length es ≡ length fs
 
 same-earlier : (caps : Caps) (u v : List ℕ) (es fs : List (List ℕ)) → Prior caps es fs → naming u es ≡ naming v fs → Same caps u v es fs
-unfolding Prior lastLine lastMasked
+unfolding Prior lastIdentifier lastMasked
 same-earlier caps u v [] [] p n = record { lines = refl; terms = refl; long = refl }
 same-earlier caps u v [] (f ∷ fs) p n = absurd p
 same-earlier caps u v (e ∷ es) [] p n = absurd p

@@ -1,5 +1,5 @@
 -- The tape is what the published messages tell. Assumes nothing.
-use Prim.Native.Nat.{ℕ, zero, suc, _+_, _^_, _<_, _≤_}
+use Prim.Native.Nat.{ℕ, zero, suc, _^_, _<_, _≤_}
 use mathlib.Core.Bool.{Bool, true, false}
 use mathlib.Core.Path.{_≡_, refl, ap, _∙_, subst}
 use mathlib.Core.List.{List, [], _∷_, _++_}
@@ -22,7 +22,7 @@ use Rattle.ledger.proofs.RowFields.{after-identifier, after-terms}
 use Rattle.submission.specs.Opening.{Limits}
 use Rattle.submission.specs.Submission.{swapOf, actionIn, maskedTerms, termsFor, placeFor, rowFor, ledgerFor, lineFor, submitted}
 use Rattle.submission.specs.History.{Call, submit, messageOf, ledgerAfter, publishes, lineOf, tape}
-use Rattle.submission.specs.Published.{published, lastLine, lastMasked, toldTerms, toldLine, told}
+use Rattle.submission.specs.Published.{published, lastIdentifier, lastMasked, toldTerms, toldLine, told}
 use Rattle.submission.proofs.Acceptance.{Fits}
 use Rattle.submission.proofs.Lookup.{row-whole, length-shown, old-place, next-raised, caps-kept, own-row, other-kept}
 use Rattle.submission.proofs.Turn.{Accepts, accepts, refused-ledger, refused-publishes, refused-line, accepted-ledger, accepted-publishes, accepted-line}
@@ -32,7 +32,7 @@ use Rattle.submission.proofs.Turn.{Accepts, accepts, refused-ledger, re
 pub record Holds (caps : Caps) (l : List ℕ) (earlier : List (List ℕ)) : Type 0 where
   pub caps-are : capsIn l ≡ caps
   pub next-is : nextIdentifier l ≡ suc (length earlier)
-  pub identifiers : (u : List ℕ) → length u ≤ utiSize → isKnown l u ≡ true → identifierOf (swapRow l u) ≡ lastLine u earlier
+  pub identifiers : (u : List ℕ) → length u ≤ utiSize → isKnown l u ≡ true → identifierOf (swapRow l u) ≡ lastIdentifier u earlier
   pub terms : (u : List ℕ) → length u ≤ utiSize → isKnown l u ≡ true → storedTerms (swapRow l u) ≡ lastMasked caps u earlier
 
 -- NEWT shows no previous identifier
@@ -52,7 +52,7 @@ module _ (limits : Limits) (small : limits .largest < 256 ^ u32) (caps : Caps) (
       by true e = refl
       by false e = h .terms (swapOf m) (f .uti) (f .known (old-unless-full a e))
 
-  previous-told : isNew a ≡ false → swapIdentifier l (swapOf m) ≡ lastLine (swapOf m) earlier
+  previous-told : isNew a ≡ false → swapIdentifier l (swapOf m) ≡ lastIdentifier (swapOf m) earlier
   unfolding swapIdentifier
   previous-told e = rw (f .known e) (h .identifiers (swapOf m) (f .uti) (f .known e))
 
@@ -60,7 +60,7 @@ module _ (limits : Limits) (small : limits .largest < 256 ^ u32) (caps : Caps) (
   unfolding lineFor toldLine
   line-told = rw (reads, terms-told, h .next-is) (by (isNew a) refl)
     where
-      by : (b : Bool) → isNew a ≡ b → line a (suc (length earlier)) (swapIdentifier l (swapOf m)) m (toldTerms caps earlier m) ≡ line a (suc (length earlier)) (lastLine (swapOf m) earlier) m (toldTerms caps earlier m)
+      by : (b : Bool) → isNew a ≡ b → line a (suc (length earlier)) (swapIdentifier l (swapOf m)) m (toldTerms caps earlier m) ≡ line a (suc (length earlier)) (lastIdentifier (swapOf m) earlier) m (toldTerms caps earlier m)
       by true e = new-line a _ _ _ m _ e
       by false e = ap (λ p. line a (suc (length earlier)) p m (toldTerms caps earlier m)) (previous-told e)
 
@@ -93,11 +93,11 @@ module _ (limits : Limits) (small : limits .largest < 256 ^ u32) (caps : Caps) (
   next-after = next-raised limits l t m a f small ∙ rw (h .next-is, add-one)
 
   module _ (u : List ℕ) (short : length u ≤ utiSize) (known : isKnown (ledgerFor a l m) u ≡ true) where
-    identifier-line : writesLine a ≡ true → identifierOf (swapRow (ledgerFor a l m) u) ≡ lastLine u (m ∷ earlier)
-    unfolding lastLine
+    identifier-line : writesLine a ≡ true → identifierOf (swapRow (ledgerFor a l m) u) ≡ lastIdentifier u (m ∷ earlier)
+    unfolding lastIdentifier
     identifier-line w = by (sameBytes (swapOf m) u) refl
       where
-        by : (b : Bool) → sameBytes (swapOf m) u ≡ b → identifierOf (swapRow (ledgerFor a l m) u) ≡ choose b (suc (length earlier)) (lastLine u earlier)
+        by : (b : Bool) → sameBytes (swapOf m) u ≡ b → identifierOf (swapRow (ledgerFor a l m) u) ≡ choose b (suc (length earlier)) (lastIdentifier u earlier)
         by true e = subst (λ v. identifierOf (swapRow (ledgerFor a l m) v) ≡ suc (length earlier)) (same-true (swapOf m) u e) (own-identifier ∙ rw w)
         by false e = let k = other-kept limits l t m a f small u short (same-apart (swapOf m) u e) known in ap identifierOf (k .1) ∙ h .identifiers u short (k .0)
 
@@ -112,15 +112,15 @@ module _ (limits : Limits) (small : limits .largest < 256 ^ u32) (caps : Caps) (
         by false e = let k = other-kept limits l t m a f small u short (same-apart (swapOf m) u e) known in ap storedTerms (k .1) ∙ h .terms u short (k .0)
 
     -- a call that writes no line leaves identifier and terms
-    identifier-quiet : writesLine a ≡ false → identifierOf (swapRow (ledgerFor a l m) u) ≡ lastLine u earlier
+    identifier-quiet : writesLine a ≡ false → identifierOf (swapRow (ledgerFor a l m) u) ≡ lastIdentifier u earlier
     identifier-quiet w = by (sameBytes (swapOf m) u) refl
       where
         old : isNew a ≡ false
         old = old-unless-full a (line-if-full a w)
 
-        by : (b : Bool) → sameBytes (swapOf m) u ≡ b → identifierOf (swapRow (ledgerFor a l m) u) ≡ lastLine u earlier
+        by : (b : Bool) → sameBytes (swapOf m) u ≡ b → identifierOf (swapRow (ledgerFor a l m) u) ≡ lastIdentifier u earlier
         by true e =
-            subst (λ v. identifierOf (swapRow (ledgerFor a l m) v) ≡ lastLine v earlier) (same-true (swapOf m) u e)
+            subst (λ v. identifierOf (swapRow (ledgerFor a l m) v) ≡ lastIdentifier v earlier) (same-true (swapOf m) u e)
             (own-identifier ∙ rw (w, old-place limits l t m a f small old) (h .identifiers (swapOf m) (f .uti) (f .known old)))
         by false e = let k = other-kept limits l t m a f small u short (same-apart (swapOf m) u e) known in ap identifierOf (k .1) ∙ h .identifiers u short (k .0)
 

@@ -1,4 +1,4 @@
--- Demand 1: any bytes in message, ledger or tape buffer get an answer; a refusal has its number, names the element where one is at fault, and changes no
+-- Document 01, 'Verdict numbers', demand 1: any bytes in message, ledger or tape buffer get an answer; a refusal has its number, names the element where one is at fault, and changes no
 -- byte of ledger or tape buffer. That any bytes get an answer lies in the definitions: they are functions of lists of any length.
 use Prim.Native.Nat.{ℕ, _≤_}
 use mathlib.Core.Path.{_≡_}
@@ -9,9 +9,8 @@ use Rattle.actions.specs.Actions.{actionCode}
 use Rattle.elements.specs.Codes.{uti}
 use Rattle.rules.specs.declared.checks.Check.{Check}
 use Rattle.rules.specs.Verdicts.{noAction, formBroken}
-use Rattle.rules.specs.Rules.{atFault}
-use Rattle.rules.proofs.FindingLaws.{LowestAtFault}
-use Rattle.rules.proofs.VerdictLaws.{numberOf}
+use Rattle.rules.specs.Findings.{LowestAtFault}
+use Rattle.rules.specs.Rules.{atFault, numberOf}
 use Rattle.ledger.specs.declared.header.Caps.{Caps}
 use Rattle.submission.specs.Verdicts.{ledgerShort, capWrong, ledgerWrong, identifiersSpent}
 use Rattle.submission.specs.Opening.{Limits, opened}

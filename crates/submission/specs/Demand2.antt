@@ -16,14 +16,13 @@ use Rattle.actions.specs.Statuses.{live, ported, noStep, nextStatus, repeatsTim
 use Rattle.elements.specs.Codes.{uti, executionTime}
 use Rattle.elements.specs.Forms.{hasForm}
 use Rattle.rules.specs.Verdicts.{formBroken}
+use Rattle.rules.specs.Findings.{numberAt, FirstBroken}
 use Rattle.rules.specs.Rules.{verdict}
-use Rattle.rules.proofs.FindingLaws.{numberAt, FirstBroken}
 use Rattle.ledger.specs.declared.header.Caps.{Caps}
-use Rattle.ledger.specs.Layout.{u32, u64, rowsAt, nextAt, statusAt, lengthAt, identifierAt, tailAt, tailSize, headerSize, rowSize, rowStart, shortestLedger, lineSize, lastIdentifier}
-use Rattle.ledger.specs.Header.{rowsInUse, nextIdentifier, capacityIn, capsIn, areCaps, capacityFor, headerRight, headerFields}
+use Rattle.ledger.specs.Layout.{u32, u64, rowsAt, nextAt, statusAt, lengthAt, identifierAt, tailAt, tailSize, headerSize, rowSize, rowStart, shortestLedger, lineSize, identifierLimit}
+use Rattle.ledger.specs.Header.{rowsInUse, nextIdentifier, capacityIn, capsIn, areCaps, capacityFor, headerRight, RightHeader, headerFields}
 use Rattle.ledger.specs.Rows.{rowAt, statusOf, identifierOf, storedTerms, storedTime, isKnown, swapRow, swapStatus, swapIdentifier, rowFields}
 use Rattle.ledger.specs.Line.{lineFields}
-use Rattle.ledger.proofs.RightHeader.{RightHeader}
 use Rattle.submission.specs.Verdicts.{ledgerShort, capWrong, ledgerWrong, rowWrong}
 use Rattle.submission.specs.Opening.{Limits, opened}
 use Rattle.submission.specs.Status.{asked}
@@ -62,7 +61,7 @@ pub record Sound (limits : Limits) (l t m : List ℕ) : Type 0 where
   pub step : nextStatus action (swapStatus l (swapOf m)) ≡ noStep → ⊥
   pub time : repeatsTime action ≡ true → value executionTime m ≡ storedTime (swapRow l (swapOf m))
   pub room : isNew action ≡ true → rowsInUse l ≡ capacityIn l → ⊥
-  pub spare : writesLine action ≡ true → nextIdentifier l ≡ lastIdentifier → ⊥
+  pub spare : writesLine action ≡ true → nextIdentifier l ≡ identifierLimit → ⊥
 
 abbrev pub Accepted-exactly : Type 0
 Accepted-exactly = (limits : Limits) (l t m : List ℕ) → (submitted limits l t m .verdict ≡ 0) ↔ Sound limits l t m

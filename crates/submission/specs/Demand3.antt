@@ -1,4 +1,4 @@
--- Demand 3: one claim over two whole histories. The premises speak of messages, verdict numbers and caps alone.
+-- Document 01, 'The tape line', demand 3: one claim over two whole histories. The premises speak of messages, verdict numbers and caps alone.
 use Prim.Native.Nat.{ℕ, _^_, _<_}
 use mathlib.Core.Path.{_≡_}
 use mathlib.Core.Logic.{_↔_}
@@ -37,8 +37,8 @@ lastTerms caps u (j ∷ js) terms =
     (choose (both (eqb (j .verdict) 0) (both (hasAction isFull (j .message)) (sameBytes (swapOf (j .message)) u))) (maskedTerms caps (j .message)) terms)
 
 -- a full message's own; TERM and EROR have those of their swap's last accepted full message earlier in the list, others none
-unfoldable pub termsAt : Caps → List Judgement → ℕ → List ℕ
-termsAt caps js i =
+unfoldable pub maskedTermsAt : Caps → List Judgement → ℕ → List ℕ
+maskedTermsAt caps js i =
     let m : List ℕ = messageAt js i in
     choose (hasAction isFull m) (maskedTerms caps m)
     (choose (hasAction writesLine m) (lastTerms caps (swapOf m) (take i js) []) [])
@@ -55,7 +55,7 @@ pub record Alike (caps : Caps) (js ks : List Judgement) : Type 0 where
   pub verdicts : (i : ℕ) → i < length js → verdictAt js i ≡ verdictAt ks i
   -- accepted messages agree in what they show of themselves, and in masked terms
   pub shown : (i : ℕ) → Accepted js i → SameShown (messageAt js i) (messageAt ks i)
-  pub terms : (i : ℕ) → Accepted js i → termsAt caps js i ≡ termsAt caps ks i
+  pub terms : (i : ℕ) → Accepted js i → maskedTermsAt caps js i ≡ maskedTermsAt caps ks i
   -- two of them name the same swap exactly where their partners do
   pub swaps : (i j : ℕ) → Accepted js i → Accepted js j → (swapOf (messageAt js i) ≡ swapOf (messageAt js j)) ↔ (swapOf (messageAt ks i) ≡ swapOf (messageAt ks j))
 

@@ -1,4 +1,4 @@
--- The tape as the published messages alone tell it: those that were accepted and wrote a line, and the caps.
+-- Document 01, 'The tape line': the tape as the published messages alone tell it: those that were accepted and wrote a line, and the caps.
 use Prim.Native.Nat.{ℕ, suc, _^_, _<_}
 use mathlib.Core.Path.{_≡_}
 use mathlib.Core.List.{List, [], _∷_, _++_}
@@ -25,9 +25,9 @@ published limits l (c ∷ cs) =
 -- ---- `earlier` are published messages, the latest first
 
 -- the identifier of the swap's last line, 0 where it has none: the first line took 1, the second 2
-unfoldable pub lastLine : List ℕ → List (List ℕ) → ℕ
-lastLine u [] = 0
-lastLine u (e ∷ earlier) = choose (sameBytes (swapOf e) u) (suc (length earlier)) (lastLine u earlier)
+unfoldable pub lastIdentifier : List ℕ → List (List ℕ) → ℕ
+lastIdentifier u [] = 0
+lastIdentifier u (e ∷ earlier) = choose (sameBytes (swapOf e) u) (suc (length earlier)) (lastIdentifier u earlier)
 
 -- the masked terms of the swap's last full message
 unfoldable pub lastMasked : Caps → List ℕ → List (List ℕ) → List ℕ
@@ -44,7 +44,7 @@ lineBy (Value a) identifier previous m terms = line a identifier previous m term
 
 -- the line of a message that is published after the earlier ones
 unfoldable pub toldLine : Caps → List (List ℕ) → List ℕ → List ℕ
-toldLine caps earlier m = lineBy (actionIn m) (suc (length earlier)) (lastLine (swapOf m) earlier) m (toldTerms caps earlier m)
+toldLine caps earlier m = lineBy (actionIn m) (suc (length earlier)) (lastIdentifier (swapOf m) earlier) m (toldTerms caps earlier m)
 
 unfoldable pub told : Caps → List (List ℕ) → List (List ℕ) → List ℕ
 told caps earlier [] = []

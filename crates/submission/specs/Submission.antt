@@ -19,7 +19,7 @@ use Rattle.terms.specs.Terms.{termsOf}
 use Rattle.rules.specs.Findings.{Finding, brokenIf, firstBroken}
 use Rattle.rules.specs.Rules.{rulesFor}
 use Rattle.ledger.specs.declared.header.Caps.{Caps}
-use Rattle.ledger.specs.Layout.{rowStart, lineSize, lastIdentifier}
+use Rattle.ledger.specs.Layout.{rowStart, lineSize, identifierLimit}
 use Rattle.ledger.specs.Header.{rowsInUse, nextIdentifier, capacityIn, capsIn, capFor, headerRight}
 use Rattle.ledger.specs.Rows.{rowAt, statusOf, identifierOf, storedTerms, storedTime, placeOf, isKnown, swapRow, swapStatus, swapIdentifier, rowAfter, headerAfter}
 use Rattle.ledger.specs.Line.{line}
@@ -58,7 +58,7 @@ findsFull a l = both (isNew a) (eqb (rowsInUse l) (capacityIn l))
 
 -- a line is due and the next identifier is 1,000,000,000,000 (18)
 unfoldable pub findsSpent : Action → List ℕ → Bool
-findsSpent a l = both (writesLine a) (eqb (nextIdentifier l) lastIdentifier)
+findsSpent a l = both (writesLine a) (eqb (nextIdentifier l) identifierLimit)
 
 unfoldable pub swapRules : Action → List ℕ → List ℕ → List (ℕ × Finding)
 swapRules a l m =
@@ -115,6 +115,13 @@ ledgerFor a l m = headerAfter a (rowsInUse l) (nextIdentifier l) (splice l (rowS
 unfoldable pub lineFor : Action → List ℕ → List ℕ → List ℕ
 lineFor a l m = line a (nextIdentifier l) (swapIdentifier l (swapOf m)) m (termsFor a l m)
 
+-- a line takes the first 146 bytes of the tape buffer; later bytes stay. PRTO writes no byte of it
+abbrev pub tapeAfter : Action → List ℕ → List ℕ → List ℕ
+tapeAfter a line t = choose (writesLine a) (splice t 0 line) t
+
+abbrev pub tapeFor : Action → List ℕ → List ℕ → List ℕ → List ℕ
+tapeFor a l t m = tapeAfter a (lineFor a l m) t
+
 -- ---- one submission
 
 -- what a submission answers (verdict, element, and the identifier its line took) and leaves in ledger and tape buffer
@@ -125,7 +132,7 @@ pub record Submitted : Type 0 where
   pub ledger : List ℕ
   pub tape : List ℕ
 
--- a line takes the first 146 bytes of the tape buffer; later bytes stay. The identifier is 0 where no line is written
+-- the identifier is 0 where no line is written
 abbrev pub accepted : Action → List ℕ → List ℕ → List ℕ → Submitted
 accepted a l t m =
     record {
@@ -133,7 +140,7 @@ accepted a l t m =
       element = 0;
       identifier = choose (writesLine a) (nextIdentifier l) 0;
       ledger = ledgerFor a l m;
-      tape = choose (writesLine a) (splice t 0 (lineFor a l m)) t;
+      tape = tapeFor a l t m;
     }
 
 -- the identifier is 0 under every refusal, and nothing moves

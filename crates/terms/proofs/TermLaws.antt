@@ -1,8 +1,8 @@
 -- Laws of specs/Terms.antt. Assumes nothing.
-use Prim.Native.Nat.{ℕ, _^_, _<_, _≤_}
+use Prim.Native.Nat.{ℕ, _-_, _^_, _<_, _≤_}
 use mathlib.Core.Bool.{Bool, true}
 use mathlib.Core.Path.{_≡_, refl, sym, ap, _∙_}
-use mathlib.Core.List.{List, [], _++_}
+use mathlib.Core.List.{List, [], _∷_, _++_}
 use lib.ListN.{length, drop-of-length-le}
 use native.Mathlib.Omega.{arith}
 use borrow.Author.Tests.{eq-eqb, ne-eqb}
@@ -12,9 +12,11 @@ use Rattle.values.specs.Code.{isTrue}
 use Rattle.notional.specs.Masking.{largestCap, shown}
 use Rattle.notional.proofs.MaskingLaws.{shown-largest}
 use Rattle.price.specs.Price.{shownPrice}
-use Rattle.octets.specs.Fields.{written, Placed}
-use Rattle.terms.specs.Terms.{termsStart, termsEnd, termsSize, notionalDigits, shownTruth, priceText, dateFields, truthFields, priceFields, notionalFields, termFields, termsOf}
-use Rattle.octets.proofs.FieldRun.{inPlace, length-bytes, written-append, all-written, field-placed}
+use Rattle.octets.specs.Part.{splice}
+use Rattle.octets.specs.Field.{field}
+use Rattle.octets.specs.Fields.{FieldAt, written, Placed}
+use Rattle.terms.specs.Terms.{termsStart, termsEnd, termsSize, notionalSize, shownTruth, priceText, dateFields, truthFields, priceFields, notionalFields, termFields, termsOf}
+use Rattle.octets.proofs.FieldRun.{then-written, last-written, inPlace, length-bytes, written-append, all-written, field-placed}
 
 -- ---- what is shown of a value
 
@@ -39,7 +41,7 @@ unfolding priceText
 price-some v some = rw (ne-eqb _ _ some)
 
 -- the digits of the notional hold what is shown
-pub notional-fits : (cap a : ℕ) → cap ≤ largestCap → shown cap a < 10 ^ notionalDigits
+pub notional-fits : (cap a : ℕ) → cap ≤ largestCap → shown cap a < 10 ^ notionalSize
 notional-fits cap a h = omega (arith, shown-largest cap a h)
 
 -- ---- the terms as a whole
@@ -58,6 +60,15 @@ length-terms cap m = omega (arith, length-bytes termsStart (termFields cap m) te
 pub term-placed : (cap : ℕ) (m : List ℕ) → Placed termsStart (termFields cap m) (termsOf cap m)
 unfolding termsOf
 term-placed cap m = field-placed termsStart (termFields cap m) termsEnd (in-place cap m)
+
+-- four fields, written one after the other
+pub four-written : (f₁ f₂ f₃ f₄ : FieldAt) (d : List ℕ) {d₁ d₂ d₃ last : List ℕ}
+    → d₁ ≡ splice d (f₁ .0 - termsStart) (field (f₁ .1) (f₁ .2))
+    → d₂ ≡ splice d₁ (f₂ .0 - termsStart) (field (f₂ .1) (f₂ .2))
+    → d₃ ≡ splice d₂ (f₃ .0 - termsStart) (field (f₃ .1) (f₃ .2))
+    → last ≡ splice d₃ (f₄ .0 - termsStart) (field (f₄ .1) (f₄ .2))
+    → last ≡ written termsStart (f₁ ∷ f₂ ∷ f₃ ∷ f₄ ∷ []) d
+four-written f₁ f₂ f₃ f₄ d e₁ e₂ e₃ e₄ = then-written _ _ _ _ e₁ (then-written _ _ _ _ e₂ (then-written _ _ _ _ e₃ (last-written _ _ _ e₄)))
 
 -- the four groups, written one after the other
 pub groups-written : (cap : ℕ) (m d : List ℕ) {d₁ d₂ d₃ last : List ℕ} → length d ≡ termsSize → d₁ ≡ written termsStart (dateFields m) d → d₂ ≡ written termsStart (truthFields m) d₁ → d₃ ≡ written termsStart (priceFields m) d₂ → last ≡ written termsStart (notionalFields cap m) d₃ → last ≡ termsOf cap m

@@ -40,8 +40,8 @@ unfoldable pub plusText : Bool → List ℕ
 plusText plus = choose plus (text "+") []
 
 -- zero padded
-abbrev pub notionalDigits : ℕ
-notionalDigits = 16
+abbrev pub notionalSize : ℕ
+notionalSize = 16
 
 -- execution time, effective, expiration, Cleared
 unfoldable pub dateFields : List ℕ → List FieldAt
@@ -73,7 +73,7 @@ priceFields m =
 unfoldable pub notionalFields : ℕ → List ℕ → List FieldAt
 notionalFields cap m =
     (121, 2, kept assetClass m)
-    ∷ (123, notionalDigits, digits notionalDigits (shown cap (amount (kept notionalAmount m))))
+    ∷ (123, notionalSize, digits notionalSize (shown cap (amount (kept notionalAmount m))))
     ∷ (139, 1, plusText (over cap (amount (kept notionalAmount m))))
     ∷ (140, 3, kept notionalCurrency m)
     ∷ (143, 2, kept settlementLocation m)

@@ -7,7 +7,7 @@ use crate::fields::number_at;
 use crate::hex;
 use actions::Action;
 use ledger::HEADER_SIZE;
-use ledger::LAST_IDENTIFIER;
+use ledger::IDENTIFIER_LIMIT;
 use ledger::NEXT_AT;
 use ledger::ROW_SIZE;
 use ledger::ROWS_AT;
@@ -183,7 +183,7 @@ fn write_header(l: &mut [u8], a: Action) -> bool {
     }
     let rows = read_at(l, ROWS_AT, U32);
     let next = read_at(l, NEXT_AT, U64);
-    if LAST_IDENTIFIER < next {
+    if IDENTIFIER_LIMIT < next {
         return false;
     }
     ledger::update_header(l, a, rows, next);

@@ -19,7 +19,7 @@ use Rattle.elements.specs.Codes.{eventType, eventTime}
 use Rattle.ledger.specs.declared.header.Caps.{Caps}
 use Rattle.submission.specs.Submission.{swapOf}
 use Rattle.submission.specs.History.{Judgement}
-use Rattle.submission.specs.Demand3.{messageAt, verdictAt, Accepted, termsAt, SameShown, Alike}
+use Rattle.submission.specs.Demand3.{messageAt, verdictAt, Accepted, maskedTermsAt, SameShown, Alike}
 
 -- ---- the test: a part for each premise
 
@@ -43,7 +43,7 @@ abbrev pub shownAlike : List Judgement → List Judgement → Bool
 shownAlike js ks = all (λ i. ifAccepted js i (sameShown (messageAt js i) (messageAt ks i))) (length js)
 
 abbrev pub termsAlike : Caps → List Judgement → List Judgement → Bool
-termsAlike caps js ks = all (λ i. ifAccepted js i (sameBytes (termsAt caps js i) (termsAt caps ks i))) (length js)
+termsAlike caps js ks = all (λ i. ifAccepted js i (sameBytes (maskedTermsAt caps js i) (maskedTermsAt caps ks i))) (length js)
 
 abbrev pub swapsAlike : List Judgement → List Judgement → Bool
 swapsAlike js ks = all (λ i. all (λ j. ifAccepted js i (ifAccepted js j (Bool·beq (sameSwap js i j) (sameSwap ks i j)))) (length js)) (length js)

@@ -28,7 +28,7 @@ use Rattle.rules.specs.Rules.{longPrice, priceTooLong, outOfOrder, rulesOf, rul
 use Rattle.ledger.specs.Header.{rowsInUse, firstRow, nextIdentifier, capsIn, sizeOfRows, capacityIn, capFor, areCaps, capacityFor, headerRight, headerFields, capFields, newHeader}
 use Rattle.ledger.specs.Line.{lineFields, line}
 use Rattle.ledger.specs.Rows.{rowAt, statusOf, identifierOf, storedTerms, storedTime, holdsUti, placeIn, isKnown, swapStatus, swapIdentifier, rowFields, newRow, withStatus, withIdentifier, withTerms, withRows, withNext, headerAfter}
-use Rattle.submission.specs.Demand3.{lastTerms, termsAt}
+use Rattle.submission.specs.Demand3.{lastTerms, maskedTermsAt}
 use Rattle.submission.specs.History.{publishes, lineOf, tape, judgements}
 use Rattle.submission.specs.Opening.{openingRules, openingVerdict, opened}
 use Rattle.submission.specs.Submission.{rowRight, hasWrongRow, isNotAdmitted, hasOtherTime, findsFull, findsSpent, swapRules, submissionRules, verdictOn, maskedTerms, termsFor, placeFor, rowFor, ledgerFor, lineFor, submitted}
@@ -63,7 +63,7 @@ unfolding rowsInUse firstRow nextIdentifier capsIn sizeOfRows capacityIn capFor 
 storing = tt
 
 submitting : Unit {0}
-unfolding lastTerms termsAt publishes lineOf tape judgements openingRules openingVerdict opened rowRight hasWrongRow isNotAdmitted hasOtherTime findsFull findsSpent swapRules submissionRules verdictOn maskedTerms termsFor placeFor rowFor ledgerFor lineFor submitted
+unfolding lastTerms maskedTermsAt publishes lineOf tape judgements openingRules openingVerdict opened rowRight hasWrongRow isNotAdmitted hasOtherTime findsFull findsSpent swapRules submissionRules verdictOn maskedTerms termsFor placeFor rowFor ledgerFor lineFor submitted
 submitting = tt
 
 history : Unit {0}

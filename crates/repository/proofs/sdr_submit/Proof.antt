@@ -1,6 +1,5 @@
 -- `repository::sdr_submit` meets its contract. Assumes nothing.
 use mathlib.Core.Path.{_∙_}
-use Prim.Native.Nat.{_<_}
 use lib.Dec.{lit<}
 use Rattle.submission.specs.Opening.{documentLimits}
 use Rattle.submission.proofs.Demand1.{submission-answers}

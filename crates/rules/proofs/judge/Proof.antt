@@ -134,25 +134,25 @@ returns c = rw (sym (c .before .has-layout .ensures) ∙ not-true _ (c .if1 .tak
 
 returns-2 : tie.Need-returns-2
 unfolding firstBroken
-returns-2 c = c .refused .ensures ∙ ap (refusedBy noAction) (c .before .enum-told .given .1) ∙ sym (read (c .before .before .before) ∙ ap (afterLayout (m0 (c .before .before .before))) (c .before .enum-told .given .1))
+returns-2 c = c .refused-by .ensures ∙ ap (refusedBy noAction) (c .before .enum-told .given .1) ∙ sym (read (c .before .before .before) ∙ ap (afterLayout (m0 (c .before .before .before))) (c .before .enum-told .given .1))
 
 returns-3 : tie.Need-returns-3
 unfolding rulesOf
 returns-3 c =
     let fault = c .before .enum-told2 .given .1 in
-    c .refused2 .ensures ∙ ap (refusedBy neededMissing) fault ∙ sym (at1 (c .before .before .before .before) ∙ check-stop neededAt _ _ (lit< tt) _ refl (sym (c .before .before .before .lowest-fault .ensures) ∙ fault))
+    c .refused-by2 .ensures ∙ ap (refusedBy neededMissing) fault ∙ sym (at1 (c .before .before .before .before) ∙ check-stop neededAt _ _ (lit< tt) _ refl (sym (c .before .before .before .lowest-fault .ensures) ∙ fault))
 
 returns-4 : tie.Need-returns-4
 unfolding rulesOf
 returns-4 c =
     let fault = c .before .enum-told3 .given .1 in
-    c .refused3 .ensures ∙ ap (refusedBy notTaken) fault ∙ sym (at2 (c .before .before .before .before) ∙ check-stop takenAt _ _ (lit< tt) _ refl (sym (c .before .before .before .lowest-fault2 .ensures) ∙ fault))
+    c .refused-by3 .ensures ∙ ap (refusedBy notTaken) fault ∙ sym (at2 (c .before .before .before .before) ∙ check-stop takenAt _ _ (lit< tt) _ refl (sym (c .before .before .before .lowest-fault2 .ensures) ∙ fault))
 
 returns-5 : tie.Need-returns-5
 unfolding rulesOf
 returns-5 c =
     let fault = c .before .enum-told4 .given .1 in
-    c .refused4 .ensures ∙ ap (refusedBy formBroken) fault ∙ sym (at3 (c .before .before .before .before) ∙ check-stop formedAt _ _ (lit< tt) _ refl (sym (c .before .before .before .lowest-fault3 .ensures) ∙ fault))
+    c .refused-by4 .ensures ∙ ap (refusedBy formBroken) fault ∙ sym (at3 (c .before .before .before .before) ∙ check-stop formedAt _ _ (lit< tt) _ refl (sym (c .before .before .before .lowest-fault3 .ensures) ∙ fault))
 
 returns-6 : tie.Need-returns-6
 unfolding rulesOf
@@ -162,7 +162,7 @@ returns-7 : tie.Need-returns-7
 unfolding rulesOf
 returns-7 c =
     let fault = c .before .enum-told5 .given .1 in
-    c .refused5 .ensures ∙ ap (refusedBy dueMissing) fault ∙ sym (at5 (c .before .before .before .before) ∙ check-stop dueAt _ _ (lit< tt) _ refl (sym (c .before .before .before .lowest-fault4 .ensures) ∙ fault))
+    c .refused-by5 .ensures ∙ ap (refusedBy dueMissing) fault ∙ sym (at5 (c .before .before .before .before) ∙ check-stop dueAt _ _ (lit< tt) _ refl (sym (c .before .before .before .lowest-fault4 .ensures) ∙ fault))
 
 returns-8 : tie.Need-returns-8
 unfolding rulesOf

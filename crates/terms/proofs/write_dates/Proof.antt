@@ -1,6 +1,6 @@
 -- `terms::write_dates` meets its contract. Assumes nothing.
 use Rattle.terms.specs.Terms.{dateFields}
-use Rattle.octets.proofs.FieldRun.{then-written, last-written}
+use Rattle.terms.proofs.TermLaws.{four-written}
 use borrow.Author.Needs.{needs}
 use Rattle.terms.proofs.write_dates.Statement.{statement}
 use Rattle.terms.proofs.write_dates.Tie as tie
@@ -11,7 +11,7 @@ returns c =
     let third = c .before .before .before .before in
     let second = third .before .before .before .before in
     let first = second .before .before .before .before in
-    then-written _ _ _ _ (first .before .before .text-at .ensures) (then-written _ _ _ _ (second .before .before .text-at2 .ensures) (then-written _ _ _ _ (third .before .before .text-at3 .ensures) (last-written _ _ _ (c .before .before .text-at4 .ensures))))
+    four-written _ _ _ _ _ (first .before .before .text-at .ensures) (second .before .before .text-at2 .ensures) (third .before .before .text-at3 .ensures) (c .before .before .text-at4 .ensures)
 
 pub write-dates-spec : {M : Type 1} → statement M
 write-dates-spec =

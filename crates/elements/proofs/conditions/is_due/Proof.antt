@@ -7,11 +7,11 @@ use Rattle.elements.proofs.conditions.is_due.Tie as tie
 
 returns : tie.Need-returns
 unfolding isDue
-returns c = rw (← c .before .before .before .condition-of .ensures, sym (c .before .before .is-conditional .ensures) ∙ c .before .if1 .taken) (c .is-met .ensures)
+returns c = rw (← c .before .before .before .condition-of .ensures .0, sym (c .before .before .is-conditional .ensures) ∙ c .before .if1 .taken) (c .is-met .ensures)
 
 returns-2 : tie.Need-returns-2
 unfolding isDue
-returns-2 c = rw (← c .before .before .condition-of .ensures, sym (c .before .is-conditional .ensures) ∙ c .if1 .left)
+returns-2 c = rw (← c .before .before .condition-of .ensures .0, sym (c .before .is-conditional .ensures) ∙ c .if1 .left)
 
 pub is-due-spec : {M : Type 1} → statement M
 is-due-spec =

@@ -7,11 +7,11 @@ use Rattle.elements.proofs.conditions.kept.Tie as tie
 
 returns : tie.Need-returns
 unfolding kept
-returns c = rw (← c .before .before .before .condition-of .ensures, sym (c .before .before .is-met .ensures) ∙ c .before .if1 .taken) (c .element .ensures .0)
+returns c = rw (← c .before .before .before .condition-of .ensures .0, sym (c .before .before .is-met .ensures) ∙ c .before .if1 .taken) (c .element .ensures .0)
 
 returns-2 : tie.Need-returns-2
 unfolding kept
-returns-2 c = rw (← c .before .before .before .condition-of .ensures, sym (c .before .before .is-met .ensures) ∙ c .before .if1 .left)
+returns-2 c = rw (← c .before .before .before .condition-of .ensures .0, sym (c .before .before .is-met .ensures) ∙ c .before .if1 .left)
 
 pub kept-spec : {M : Type 1} → statement M
 kept-spec =

@@ -1,54 +1,81 @@
--- `ledger::header::cap_for` meets its contract. Assumes nothing.
-use mathlib.Core.Path.{sym, _∙_}
+-- `ledger::header::cap_for` meets its contract. Where the first k classes are passed, the rest of the table decides. Assumes nothing.
+use borrow.Author.Needs.{needs}
+use Prim.Native.Nat.{ℕ}
+use mathlib.Core.Path.{_≡_, sym, _∙_}
+use mathlib.Core.List.{List}
+use lib.Dec.{lit<}
+use lib.ListN.{drop}
+use denote.Ref.{now}
 use Rattle.octets.specs.Text.{text}
 use Rattle.octets.specs.Same.{beside}
-use Rattle.ledger.specs.Header.{capFor}
-use borrow.Author.Needs.{needs}
+use Rattle.octets.proofs.SameLaws.{beside-is, beside-not}
+use Rattle.ledger.specs.declared.header.Caps.{Caps}
+use Rattle.ledger.specs.Header.{classCaps, capFor}
 use Rattle.ledger.proofs.header.cap_for.Statement.{statement}
 use Rattle.ledger.proofs.header.cap_for.Tie as tie
 
+rest : ℕ → Caps → List ℕ → ℕ
+rest k caps v = beside (drop k (classCaps caps)) 0 v
+
+-- caps and class, at each place
+abbrev a1 : (c : tie.Else1) → Caps × List ℕ
+a1 c = (c .before .before .before .before .args .caps, now (c .before .before .before .before .args .class))
+
+abbrev a2 : (c : tie.Else2) → Caps × List ℕ
+a2 c = a1 (c .before .before .before)
+
+abbrev a3 : (c : tie.Else3) → Caps × List ℕ
+a3 c = a2 (c .before .before .before)
+
+abbrev a4 : (c : tie.Else4) → Caps × List ℕ
+a4 c = a3 (c .before .before .before)
+
+abbrev a5 : (c : tie.Else5) → Caps × List ℕ
+a5 c = a4 (c .before .before .before)
+
+passed1 : (c : tie.Else1) → capFor (a1 c .0) (a1 c .1) ≡ rest 1 (a1 c .0) (a1 c .1)
+unfolding capFor rest text
+passed1 c = beside-not (classCaps _) 0 0 (lit< tt) _ _ (c .before .same .ensures) (c .if1 .left)
+
+passed2 : (c : tie.Else2) → capFor (a2 c .0) (a2 c .1) ≡ rest 2 (a2 c .0) (a2 c .1)
+unfolding capFor rest text
+passed2 c = passed1 (c .before .before .before) ∙ beside-not (classCaps (a1 (c .before .before .before) .0)) 0 1 (lit< tt) _ _ (c .before .same2 .ensures) (c .if2 .left)
+
+passed3 : (c : tie.Else3) → capFor (a3 c .0) (a3 c .1) ≡ rest 3 (a3 c .0) (a3 c .1)
+unfolding capFor rest text
+passed3 c = passed2 (c .before .before .before) ∙ beside-not (classCaps (a2 (c .before .before .before) .0)) 0 2 (lit< tt) _ _ (c .before .same3 .ensures) (c .if3 .left)
+
+passed4 : (c : tie.Else4) → capFor (a4 c .0) (a4 c .1) ≡ rest 4 (a4 c .0) (a4 c .1)
+unfolding capFor rest text
+passed4 c = passed3 (c .before .before .before) ∙ beside-not (classCaps (a3 (c .before .before .before) .0)) 0 3 (lit< tt) _ _ (c .before .same4 .ensures) (c .if4 .left)
+
+passed5 : (c : tie.Else5) → capFor (a5 c .0) (a5 c .1) ≡ rest 5 (a5 c .0) (a5 c .1)
+unfolding capFor rest text
+passed5 c = passed4 (c .before .before .before) ∙ beside-not (classCaps (a4 (c .before .before .before) .0)) 0 4 (lit< tt) _ _ (c .before .same5 .ensures) (c .if5 .left)
+
 returns : tie.Need-returns
-unfolding capFor beside text
-returns c = rw (sym (c .before .same .ensures) ∙ c .if1 .taken)
+unfolding capFor rest text
+returns c = beside-is (classCaps _) 0 0 (lit< tt) _ _ (c .before .same .ensures) (c .if1 .taken)
 
 returns-2 : tie.Need-returns-2
-unfolding capFor beside text
-returns-2 c =
-    let c1 = c .before .before .before in
-    rw (sym (c1 .before .same .ensures) ∙ c1 .if1 .left, sym (c .before .same2 .ensures) ∙ c .if2 .taken)
+unfolding capFor rest text
+returns-2 c = beside-is (classCaps (a1 (c .before .before .before) .0)) 0 1 (lit< tt) _ _ (c .before .same2 .ensures) (c .if2 .taken) ∙ sym (passed1 (c .before .before .before))
 
 returns-3 : tie.Need-returns-3
-unfolding capFor beside text
-returns-3 c =
-    let c2 = c .before .before .before in
-    let c1 = c2 .before .before .before in
-    rw (sym (c1 .before .same .ensures) ∙ c1 .if1 .left, sym (c2 .before .same2 .ensures) ∙ c2 .if2 .left, sym (c .before .same3 .ensures) ∙ c .if3 .taken)
+unfolding capFor rest text
+returns-3 c = beside-is (classCaps (a2 (c .before .before .before) .0)) 0 2 (lit< tt) _ _ (c .before .same3 .ensures) (c .if3 .taken) ∙ sym (passed2 (c .before .before .before))
 
 returns-4 : tie.Need-returns-4
-unfolding capFor beside text
-returns-4 c =
-    let c3 = c .before .before .before in
-    let c2 = c3 .before .before .before in
-    let c1 = c2 .before .before .before in
-    rw (sym (c1 .before .same .ensures) ∙ c1 .if1 .left, sym (c2 .before .same2 .ensures) ∙ c2 .if2 .left, sym (c3 .before .same3 .ensures) ∙ c3 .if3 .left, sym (c .before .same4 .ensures) ∙ c .if4 .taken)
+unfolding capFor rest text
+returns-4 c = beside-is (classCaps (a3 (c .before .before .before) .0)) 0 3 (lit< tt) _ _ (c .before .same4 .ensures) (c .if4 .taken) ∙ sym (passed3 (c .before .before .before))
 
 returns-5 : tie.Need-returns-5
-unfolding capFor beside text
-returns-5 c =
-    let c4 = c .before .before .before in
-    let c3 = c4 .before .before .before in
-    let c2 = c3 .before .before .before in
-    let c1 = c2 .before .before .before in
-    rw (sym (c1 .before .same .ensures) ∙ c1 .if1 .left, sym (c2 .before .same2 .ensures) ∙ c2 .if2 .left, sym (c3 .before .same3 .ensures) ∙ c3 .if3 .left, sym (c4 .before .same4 .ensures) ∙ c4 .if4 .left, sym (c .before .same5 .ensures) ∙ c .if5 .taken)
+unfolding capFor rest text
+returns-5 c = beside-is (classCaps (a4 (c .before .before .before) .0)) 0 4 (lit< tt) _ _ (c .before .same5 .ensures) (c .if5 .taken) ∙ sym (passed4 (c .before .before .before))
 
 returns-6 : tie.Need-returns-6
-unfolding capFor beside text
-returns-6 c =
-    let c4 = c .before .before .before in
-    let c3 = c4 .before .before .before in
-    let c2 = c3 .before .before .before in
-    let c1 = c2 .before .before .before in
-    rw (sym (c1 .before .same .ensures) ∙ c1 .if1 .left, sym (c2 .before .same2 .ensures) ∙ c2 .if2 .left, sym (c3 .before .same3 .ensures) ∙ c3 .if3 .left, sym (c4 .before .same4 .ensures) ∙ c4 .if4 .left, sym (c .before .same5 .ensures) ∙ c .if5 .left)
+unfolding rest beside
+returns-6 c = sym (passed5 c)
 
 pub cap-for-spec : {M : Type 1} → statement M
 cap-for-spec =

@@ -5,7 +5,7 @@ use lib.Dec.{eqb, leb}
 use lib.ListN.{length}
 use denote.Ref.{now}
 use borrow.Author.Tests.{le-leb, lt-leb, eq-eqb, ne-eqb}
-use Rattle.ledger.specs.Layout.{headerSize, rowSize, shortestLedger, lastIdentifier}
+use Rattle.ledger.specs.Layout.{headerSize, rowSize, shortestLedger, identifierLimit}
 use mathlib.Core.List.{List}
 use Prim.Native.Nat.{ℕ}
 use Rattle.ledger.specs.Header.{rowsInUse, firstRow, nextIdentifier, sizeOfRows, capacityIn, capsIn, areCaps, capacityFor, headerOf, headerRight}
@@ -67,7 +67,7 @@ told2 c = eq-eqb _ _ (sym (c .before .read-at .ensures .0) ∙ c .if2 .left)
 told3 : (c : tie.Else3) → leb 1 (nextIdentifier (l (start3 c))) ≡ true
 told3 c = rw (next-is (start3 c)) (le-leb _ _ (c .if3 .left))
 
-told4 : (c : tie.Else4) → leb (nextIdentifier (l (start4 c))) lastIdentifier ≡ true
+told4 : (c : tie.Else4) → leb (nextIdentifier (l (start4 c))) identifierLimit ≡ true
 told4 c = rw (next-is (start4 c)) (le-leb _ _ (c .if4 .left))
 
 told5 : (c : tie.Else5) → eqb (sizeOfRows (l (start5 c))) rowSize ≡ true

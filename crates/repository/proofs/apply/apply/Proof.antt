@@ -2,14 +2,10 @@
 use mathlib.Core.Path.{_≡_, refl, ap, _∙_}
 use lib.ListN.{length}
 use denote.Ref.{now}
-use Rattle.octets.specs.Choice.{choose}
-use Rattle.octets.specs.Part.{splice}
-use Rattle.actions.specs.Actions.{writesLine}
 use Rattle.terms.specs.Terms.{termsSize}
-use Rattle.ledger.specs.Layout.{rowStart}
-use Rattle.ledger.specs.Rows.{rowAt, rowAfter, headerAfter}
+use Rattle.ledger.specs.Rows.{rowsAfter, headerAfter}
 use Rattle.ledger.specs.Line.{line}
-use Rattle.submission.specs.Submission.{swapOf, termsFor}
+use Rattle.submission.specs.Submission.{swapOf, termsFor, tapeAfter}
 use Rattle.repository.proofs.AcceptanceLaws.{uti-fits, terms-are, line-is, ledger-is}
 use borrow.Author.Needs.{needs}
 use Rattle.repository.proofs.apply.apply.Statement.{statement}
@@ -60,10 +56,10 @@ returns c =
     let l = now (a .l) in
     let m = now (a .m) in
     let row = r .store-row .ensures
-    ∙ ap (λ u. splice l (rowStart (acceptance .place)) (rowAfter (acceptance .action) (acceptance .status) u (acceptance .next) (k .collect-terms .last .0) (rowAt l (acceptance .place)))) (r .before .before .element .ensures .0)
-    ∙ ap (λ t. splice l (rowStart (acceptance .place)) (rowAfter (acceptance .action) (acceptance .status) (swapOf m) (acceptance .next) t (rowAt l (acceptance .place)))) (terms k) in
-    let line = p .publish .ensures ∙ ap (λ t. choose (writesLine (acceptance .action)) (splice (now (a .tape)) 0 (line (acceptance .action) (acceptance .next) (acceptance .previous) m t)) (now (a .tape))) (terms k)
-    ∙ ap (λ x. choose (writesLine (acceptance .action)) (splice (now (a .tape)) 0 x) (now (a .tape))) (line-is _ _ _ acceptance (s .pre)) in
+    ∙ ap (λ u. rowsAfter (acceptance .action) (acceptance .status) u (acceptance .next) (k .collect-terms .last .0) (acceptance .place) l) (r .before .before .element .ensures .0)
+    ∙ ap (λ t. rowsAfter (acceptance .action) (acceptance .status) (swapOf m) (acceptance .next) t (acceptance .place) l) (terms k) in
+    let line = p .publish .ensures ∙ ap (λ t. tapeAfter (acceptance .action) (line (acceptance .action) (acceptance .next) (acceptance .previous) m t) (now (a .tape))) (terms k)
+    ∙ ap (λ x. tapeAfter (acceptance .action) x (now (a .tape))) (line-is _ _ _ acceptance (s .pre)) in
     (h .update-header .ensures ∙ ap (headerAfter (acceptance .action) (acceptance .rows) (acceptance .next)) row ∙ ledger-is _ _ _ acceptance (s .pre), line)
 
 pub apply-spec : {M : Type 1} → statement M

@@ -42,7 +42,7 @@ returns-3 : tie.Need-returns-3
 returns-3 c =
     let told = c .before .enum-told2 .given .1 in
     let j = c .before .before .before in
-    c .refused .ensures ∙ ap refusedAs told ∙ sym (message-left _ _ _ _ (known (j .before .before) .0) (long (j .before)) (judged.Refused _ _) (sym (j .judge .ensures) ∙ told))
+    c .refused-as .ensures ∙ ap refusedAs told ∙ sym (message-left _ _ _ _ (known (j .before .before) .0) (long (j .before)) (judged.Refused _ _) (sym (j .judge .ensures) ∙ told))
 
 decide-swap-requires : tie.Need-decide-swap-requires
 decide-swap-requires c κs =

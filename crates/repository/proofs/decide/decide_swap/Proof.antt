@@ -15,7 +15,7 @@ use Rattle.actions.specs.declared.Action.{Action}
 use Rattle.actions.specs.Actions.{isNew, writesLine}
 use Rattle.actions.specs.Statuses.{noStep, nextStatus, repeatsTime}
 use Rattle.actions.proofs.KindLaws.{old-if-repeats}
-use Rattle.ledger.specs.Layout.{rowStart, lastIdentifier}
+use Rattle.ledger.specs.Layout.{rowStart, identifierLimit}
 use Rattle.ledger.specs.declared.header.Header.{Header}
 use Rattle.ledger.specs.Header.{headerOf}
 use Rattle.ledger.specs.Rows.{rowAt, storedTime, swapStatus}
@@ -103,7 +103,7 @@ full c = c .finds-full .ensures ∙ ap (λ (h : Header). both (isNew (a (s3 (c .
 
 spent : (c : tie.After-finds-spent) → c .finds-spent .result ≡ findsSpent (a (s4 (c .before))) (l (s4 (c .before)))
 unfolding findsSpent headerOf
-spent c = c .finds-spent .ensures ∙ ap (λ (h : Header). both (writesLine (a (s4 (c .before)))) (eqb (h .next) lastIdentifier)) (s4 (c .before) .pre .0)
+spent c = c .finds-spent .ensures ∙ ap (λ (h : Header). both (writesLine (a (s4 (c .before)))) (eqb (h .next) identifierLimit)) (s4 (c .before) .pre .0)
 
 returns : tie.Need-returns
 returns c = sym (row-stop _ _ _ (swap-told _ _ found.Fault (sym (is-found (c .before .before)) ∙ c .enum-told .given .1)))
