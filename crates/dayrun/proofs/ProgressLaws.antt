@@ -1,12 +1,13 @@
 -- Laws of specs/Progress.antt. Assumes nothing.
 use Prim.Native.Nat.{ℕ, suc, _+_, _-_, _<_, _≤_}
-use mathlib.Core.Bool.{true, false}
+use mathlib.Core.Bool.{Bool, true, false}
 use mathlib.Core.Path.{_≡_, refl, sym, ap, _∙_, subst}
 use mathlib.Core.List.{List}
 use native.Mathlib.Nat.{add-zero}
 use native.Mathlib.Omega.{arith}
 use lib.ListN.{length, drop}
 use lib.Seq.{drop-drop}
+use Rattle.octets.specs.Choice.{choose}
 use Rattle.submission.specs.Submission.{Submitted}
 use Rattle.repository.specs.declared.answer.Answer.{Answer}
 use Rattle.repository.specs.Answers.{submissionAnswer}
@@ -17,7 +18,7 @@ use Rattle.day.specs.Report.{line, heading, longestLine, reportLine}
 use Rattle.dayrun.specs.declared.judging.Progress.{Progress}
 use Rattle.dayrun.specs.Day.{Day, Step, mostMessages, answered, stepOn, step, afterMessages, restAfter}
 use Rattle.dayrun.proofs.DayLaws.{step-none, step-one, after-more, rest-more, not-whole-left}
-use Rattle.dayrun.specs.Progress.{counted, dayOf, progressAfter, Reached, atStart, atFront, writeSize, Within, Steps, Leaves}
+use Rattle.dayrun.specs.Progress.{counted, dayOf, progressAfter, Reached, atStart, atFront, written, writeSize, Within, Steps, Leaves}
 
 -- ---- what is counted is the step's
 
@@ -57,6 +58,16 @@ no-further n p h l m k =
       counts = λ e. absurd (omega (arith, e));
       stays = λ _. (k, refl);
     }
+
+-- ---- writing out
+
+few-wait : (writes : Bool) (n : ℕ) → (writes ≡ false → n < writeSize) → choose writes 0 n < writeSize
+few-wait true n h = omega arith
+few-wait false n h = h refl
+
+pub written-within : (n most : ℕ) (writes told : Bool) (p r : Progress) → r ≡ written writes told p → (writes ≡ false → p .used < writeSize) → Within n most p → Within n writeSize r
+written-within n most writes told p r e h w =
+    subst (Within n writeSize) (sym e) (record { passed = w .passed; waiting = few-wait writes (p .used) h; lines = w .lines; messages = w .messages })
 
 -- ---- from one block to the next
 

@@ -1,5 +1,5 @@
 // The whole run: reading, judging and writing by turns.
-ghost use Prim.Native.Nat.{ℕ, _+_, _≤_};
+ghost use Prim.Native.Nat.{_+_, _≤_};
 ghost use mathlib.Core.Path.{_≡_};
 ghost use mathlib.Core.Bool.{true};
 ghost use lib.ListN.{length};
@@ -8,7 +8,7 @@ ghost use Rattle.octets.specs.Part.{splice};
 ghost use Rattle.day.specs.Frame.{longestFrame};
 ghost use Rattle.day.specs.Report.{heading, longestLine, lastLine};
 ghost use Rattle.dayrun.specs.Day.{newDay};
-ghost use Rattle.dayrun.specs.Progress.{writeSize, blockSize, Reached, Within, Leaves, atStart, atFront};
+ghost use Rattle.dayrun.specs.Progress.{writeSize, blockSize, Reached, Within, Leaves, atStart, atFront, written};
 use crate::input::can_wait;
 use crate::input::keep_rest;
 use crate::input::read_block;
@@ -96,8 +96,7 @@ fn from_front(p: Progress) -> Progress
 
 // Writes out what waits where the next read can wait.
 fn before_read(out: &[u8], waits: bool, p: Progress) -> Progress
-    ensures { λ r. ⌜ ((n : ℕ) → Within n writeSize p → Within n writeSize r) ⌝ }
-    ensures { λ r. ⌜ (r .at ≡ p .at) × (r .judged ≡ p .judged) × (r .published ≡ p .published) ⌝ }
+    ensures { λ r. ⌜ r ≡ written waits (r .«is_open») p ⌝ }
 {
     if waits {
         return write_out(out, p);
