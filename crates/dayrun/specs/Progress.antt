@@ -8,7 +8,7 @@ use Rattle.octets.specs.Choice.{choose}
 use Rattle.dayrun.specs.declared.judging.Progress.{Progress}
 use Rattle.day.specs.Frame.{longestFrame, isWhole}
 use Rattle.day.specs.Report.{heading, longestLine}
-use Rattle.dayrun.specs.Day.{Day, Step, mostMessages, linesOf, afterMessages, restAfter}
+use Rattle.dayrun.specs.Day.{Day, Step, mostMessages, linesOf, step, afterMessages, restAfter}
 
 -- after a message that takes so many bytes of the input and has such a line and identifier
 abbrev pub counted : Progress → ℕ → List ℕ → ℕ → Progress
@@ -18,6 +18,10 @@ counted p taken line identifier =
 -- the day that it counts, with ledger and tape buffer
 abbrev pub dayOf : List ℕ → List ℕ → Progress → Day
 dayOf l t p = record { ledger = l; tape = t; judged = p .judged; published = p .published }
+
+-- the step at the front of what is left of the input
+abbrev pub stepAt : List ℕ → List ℕ → List ℕ → Progress → Step
+stepAt l t input p = step (dayOf l t p) (drop (p .at) input)
 
 abbrev pub progressAfter : Progress → Step → Progress
 progressAfter p s =
