@@ -7,13 +7,13 @@ use native.Mathlib.Omega.{arith}
 use lib.ListN.{length, getD, List·getD-eq-default}
 use Rattle.actions.specs.declared.Action.{Action}
 use Rattle.actions.specs.declared.Action.the-variants.{Newt, Modi, Corr, Term, Eror, Revi, Prto}
-use Rattle.octets.specs.Choice.{choose, both}
-use Rattle.actions.specs.Actions.{allActions, rowOf, isFull}
-use Rattle.actions.specs.Elements.{lastCode, lastShortCode, columnOf, takes, optional, needed, neededBy, needs}
+use Rattle.actions.specs.Actions.{allActions, rowOf}
+use Rattle.actions.specs.Elements.{lastCode, needed, needs}
+use Rattle.actions.specs.declared.elements.Needed.the-variants.{Optional}
 use Rattle.actions.specs.Statuses.{unknown, live, closed, errored, ported, noStep, nextStatus}
-use mathlib.Core.Bool.{Bool, true, false}
-use lib.Dec.{leb, eqb, lit<}
-use borrow.Author.Tests.{le-leb, lt-leb, ne-eqb}
+use mathlib.Core.Bool.{false}
+use lib.Dec.{eqb, lit<}
+use borrow.Author.Tests.{ne-eqb}
 
 -- the n numbers from k on
 unfoldable pub numbers : ℕ → ℕ → List ℕ
@@ -57,46 +57,10 @@ in-row Prto = (lit< tt, refl)
 pub action-table-at : {A : Type 0} (rule : Action → ℕ → A) (n : ℕ) (a : Action) (c : ℕ) (d : A) → c < n → getD (getD (table (λ r. rule (actionAt r)) (length allActions) n) (rowOf a) []) c d ≡ rule a c
 action-table-at rule n a c d h = table-at (λ r. rule (actionAt r)) (length allActions) n (rowOf a) c d (in-row a .0) h ∙ ap (λ b. rule b c) (in-row a .1)
 
--- ---- the table of elements, with a row for each code and two columns for each kind of action
-
-abbrev pub useAt : ℕ → ℕ → Bool
-useAt code column = getD (takes Newt code ∷ needs Newt code ∷ takes Term code ∷ needs Term code ∷ []) column false
-
-pub column-low : (a : Action) → columnOf a ≤ 2
-column-low a = by (isFull a)
-  where
-    by : (t : Bool) → choose t 0 2 ≤ 2
-    by true = omega arith
-    by false = omega arith
-
--- what an action takes and needs depends on whether it is full
-pub takes-column : (a : Action) (code : ℕ) → useAt code (columnOf a) ≡ takes a code
-takes-column a code = by (isFull a)
-  where
-    by : (t : Bool) → useAt code (choose t 0 2) ≡ both (leb 1 code) (leb code (choose t lastCode lastShortCode))
-    by true = refl
-    by false = refl
-
-pub needs-column : (a : Action) (code : ℕ) → useAt code (columnOf a + 1) ≡ needs a code
-needs-column a code = by (isFull a)
-  where
-    by : (t : Bool) → useAt code (choose t 0 2 + 1) ≡ neededBy t (getD needed code optional)
-    by true = refl
-    by false = refl
-
 -- ---- beyond the last column
 
-pub takes-none : (a : Action) (code : ℕ) → lastCode < code → takes a code ≡ false
-takes-none a code h =
-    let one : 1 ≤ code = omega arith in
-    rw (le-leb 1 code one) (by (isFull a))
-  where
-    by : (t : Bool) → leb code (choose t lastCode lastShortCode) ≡ false
-    by true = lt-leb code lastCode h
-    by false = lt-leb code lastShortCode (omega arith)
-
 pub needs-none : (a : Action) (code : ℕ) → lastCode < code → needs a code ≡ false
-needs-none a code h = rw (List·getD-eq-default needed optional {n = code} h)
+needs-none a code h = rw (List·getD-eq-default needed Optional {n = code} h)
 
 pub step-none : (a : Action) (s : ℕ) → ported < s → nextStatus a s ≡ noStep
 step-none a s h = by a

@@ -7,6 +7,8 @@ use lib.Dec.{leb}
 use Rattle.octets.specs.Choice.{choose, both}
 use Rattle.message.specs.Layout.{layoutRight}
 use Rattle.actions.specs.declared.Action.{Action}
+use Rattle.actions.specs.declared.elements.Needed.{Needed}
+use Rattle.actions.specs.declared.elements.Needed.the-variants.{All, Full, Conditional, Optional}
 use Rattle.actions.specs.Actions.{isFull}
 
 -- codes lie in 1 to 25
@@ -34,53 +36,43 @@ abbrev pub takes : Action → ℕ → Bool
 takes a code = both (leb 1 code) (leb code (choose (isFull a) lastCode lastShortCode))
 
 -- the column 'Needed': by every message, by full ones, under a condition (code 3 by pair), or not at all
-pub data Needed : Type 0 where
-  all : Needed
-  full : Needed
-  conditional : Needed
-  optional : Needed
-
 abbrev pub needed : List Needed
 needed =
-    optional  -- 0 is no code
-    ∷ all  -- 1 UTI
-    ∷ all  -- 2 action type
-    ∷ conditional  -- 3 event type
-    ∷ all  -- 4 event timestamp
-    ∷ all  -- 5 reporting timestamp
-    ∷ full  -- 6 execution timestamp
-    ∷ full  -- 7 effective date
-    ∷ full  -- 8 expiration date
-    ∷ full  -- 9 final contractual settlement date
-    ∷ full  -- 10 cleared
-    ∷ conditional  -- 11 non-standardized term
-    ∷ full  -- 12 block election
-    ∷ full  -- 13 large notional election
-    ∷ full  -- 14 allocation
-    ∷ full  -- 15 package indicator
-    ∷ conditional  -- 16 package identifier
-    ∷ conditional  -- 17 package price
-    ∷ conditional  -- 18 price notation
-    ∷ conditional  -- 19 price currency
-    ∷ full  -- 20 notional amount
-    ∷ full  -- 21 notional currency
-    ∷ optional  -- 22 settlement location
-    ∷ full  -- 23 counterparty 1
-    ∷ full  -- 24 counterparty 2
-    ∷ full  -- 25 asset class
+    Optional  -- 0 is no code
+    ∷ All  -- 1 UTI
+    ∷ All  -- 2 action type
+    ∷ Conditional  -- 3 event type
+    ∷ All  -- 4 event timestamp
+    ∷ All  -- 5 reporting timestamp
+    ∷ Full  -- 6 execution timestamp
+    ∷ Full  -- 7 effective date
+    ∷ Full  -- 8 expiration date
+    ∷ Full  -- 9 final contractual settlement date
+    ∷ Full  -- 10 cleared
+    ∷ Conditional  -- 11 non-standardized term
+    ∷ Full  -- 12 block election
+    ∷ Full  -- 13 large notional election
+    ∷ Full  -- 14 allocation
+    ∷ Full  -- 15 package indicator
+    ∷ Conditional  -- 16 package identifier
+    ∷ Conditional  -- 17 package price
+    ∷ Conditional  -- 18 price notation
+    ∷ Conditional  -- 19 price currency
+    ∷ Full  -- 20 notional amount
+    ∷ Full  -- 21 notional currency
+    ∷ Optional  -- 22 settlement location
+    ∷ Full  -- 23 counterparty 1
+    ∷ Full  -- 24 counterparty 2
+    ∷ Full  -- 25 asset class
     ∷ []
 
 -- needed by a message, as the test tells whether it is full
 abbrev pub neededBy : Bool → Needed → Bool
-neededBy t all = true
-neededBy t full = t
-neededBy t conditional = false
-neededBy t optional = false
+neededBy t All = true
+neededBy t Full = t
+neededBy t Conditional = false
+neededBy t Optional = false
 
 -- a message of the action needs the element, whatever else it has
 abbrev pub needs : Action → ℕ → Bool
-needs a code = neededBy (isFull a) (getD needed code optional)
-
--- the first of an action's two columns in the table of the code: what it takes; the second: what it needs
-abbrev pub columnOf : Action → ℕ
-columnOf a = choose (isFull a) 0 2
+needs a code = neededBy (isFull a) (getD needed code Optional)

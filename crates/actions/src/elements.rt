@@ -1,10 +1,7 @@
 // Which elements a message may have, and which one of an action takes and needs.
 ghost use mathlib.Core.Path.{_≡_};
-ghost use Prim.Native.Nat.{_≤_};
-ghost use Rattle.actions.specs.Elements.{columnOf, hasLayout, takes, needs};
+ghost use Rattle.actions.specs.Elements.{hasLayout, takes, needs};
 use crate::Action;
-use crate::N;
-use crate::Y;
 use crate::is_full;
 use message::layout_right;
 
@@ -16,34 +13,44 @@ const MOST_ENTRIES: usize = 25;
 
 const CODES: usize = LAST_CODE + 1;
 
-// A row for each code from 0 on: a full action takes it, a full action needs it, another action takes it, another action needs it.
-const USES: [[bool; 4]; CODES] = [
-    [N, N, N, N], // 0 no code
-    [Y, Y, Y, Y], // 1 UTI
-    [Y, Y, Y, Y], // 2 action type
-    [Y, N, Y, N], // 3 event type
-    [Y, Y, Y, Y], // 4 event timestamp
-    [Y, Y, Y, Y], // 5 reporting timestamp
-    [Y, Y, N, N], // 6 execution timestamp
-    [Y, Y, N, N], // 7 effective date
-    [Y, Y, N, N], // 8 expiration date
-    [Y, Y, N, N], // 9 final contractual settlement date
-    [Y, Y, N, N], // 10 cleared
-    [Y, N, N, N], // 11 non-standardized term
-    [Y, Y, N, N], // 12 block election
-    [Y, Y, N, N], // 13 large notional election
-    [Y, Y, N, N], // 14 allocation
-    [Y, Y, N, N], // 15 package indicator
-    [Y, N, N, N], // 16 package identifier
-    [Y, N, N, N], // 17 package price
-    [Y, N, N, N], // 18 price notation
-    [Y, N, N, N], // 19 price currency
-    [Y, Y, N, N], // 20 notional amount
-    [Y, Y, N, N], // 21 notional currency
-    [Y, N, N, N], // 22 settlement location
-    [Y, Y, N, N], // 23 counterparty 1
-    [Y, Y, N, N], // 24 counterparty 2
-    [Y, Y, N, N], // 25 asset class
+// TERM, EROR and PRTO take codes up to this one.
+const LAST_SHORT_CODE: usize = 5;
+
+// By which messages an element is needed; the event type goes by pair.
+pub enum Needed {
+    Optional,
+    All,
+    Full,
+    Conditional,
+}
+
+const NEEDED: [Needed; CODES] = [
+    Needed::Optional, // 0 no code
+    Needed::All, // 1 UTI
+    Needed::All, // 2 action type
+    Needed::Conditional, // 3 event type
+    Needed::All, // 4 event timestamp
+    Needed::All, // 5 reporting timestamp
+    Needed::Full, // 6 execution timestamp
+    Needed::Full, // 7 effective date
+    Needed::Full, // 8 expiration date
+    Needed::Full, // 9 final contractual settlement date
+    Needed::Full, // 10 cleared
+    Needed::Conditional, // 11 non-standardized term
+    Needed::Full, // 12 block election
+    Needed::Full, // 13 large notional election
+    Needed::Full, // 14 allocation
+    Needed::Full, // 15 package indicator
+    Needed::Conditional, // 16 package identifier
+    Needed::Conditional, // 17 package price
+    Needed::Conditional, // 18 price notation
+    Needed::Conditional, // 19 price currency
+    Needed::Full, // 20 notional amount
+    Needed::Full, // 21 notional currency
+    Needed::Optional, // 22 settlement location
+    Needed::Full, // 23 counterparty 1
+    Needed::Full, // 24 counterparty 2
+    Needed::Full, // 25 asset class
 ];
 
 // Whether a message of at most `longest` bytes is laid out right, with the codes that are known.
@@ -55,25 +62,17 @@ pub fn has_layout(m: &[u8], longest: usize) -> bool
     layout_right(m, longest, MOST_ENTRIES, &known)
 }
 
-// The first of an action's two columns.
-fn column_of(a: Action) -> usize
-    ensures { λ r. ⌜ (r ≡ columnOf a) × (r ≤ 2) ⌝ }
-{
-    if is_full(a) {
-        return 0;
-    }
-    2
-}
-
 // Whether a message of the action may have the element.
 pub fn is_taken(a: Action, code: usize) -> bool
     ensures { λ r. ⌜ r ≡ takes a code ⌝ }
 {
-    if LAST_CODE < code {
+    if code < 1 {
         return false;
     }
-    let column = column_of(a);
-    USES[code][column]
+    if is_full(a) {
+        return code <= LAST_CODE;
+    }
+    code <= LAST_SHORT_CODE
 }
 
 // Whether a message of the action needs the element, whatever else it has.
@@ -83,6 +82,11 @@ pub fn is_needed(a: Action, code: usize) -> bool
     if LAST_CODE < code {
         return false;
     }
-    let column = column_of(a) + 1;
-    USES[code][column]
+    let needed = NEEDED[code];
+    match needed {
+        Needed::Optional => false,
+        Needed::All => true,
+        Needed::Full => is_full(a),
+        Needed::Conditional => false,
+    }
 }

@@ -15,7 +15,6 @@ use Rattle.octets.specs.Part.{part, splice}
 use Rattle.octets.specs.Number.{fromLe}
 use Rattle.octets.proofs.ChoiceLaws.{both-first, both-second}
 use Rattle.octets.proofs.PartLaws.{length-part, length-splice, byte-apart, splice-splice}
-use Rattle.day.specs.declared.frame.Frame.{Frame}
 use Rattle.day.specs.declared.frame.Frame.the-variants.{Message, Overlong, Partial}
 use Rattle.day.specs.Frame.{lengthSize, lengthOf, isWhole, frameOf}
 

@@ -1,12 +1,13 @@
 -- Laws of specs/Progress.antt. Assumes nothing.
 use Prim.Native.Nat.{ℕ, suc, _+_, _-_, _<_, _≤_}
-use mathlib.Core.Bool.{true, false}
+use mathlib.Core.Bool.{Bool, true, false}
 use mathlib.Core.Path.{_≡_, refl, sym, ap, _∙_, subst}
 use mathlib.Core.List.{List}
 use native.Mathlib.Nat.{add-zero}
 use native.Mathlib.Omega.{arith}
 use lib.ListN.{length, drop}
 use lib.Seq.{drop-drop}
+use Rattle.octets.specs.Choice.{choose}
 use Rattle.submission.specs.Submission.{Submitted}
 use Rattle.repository.specs.declared.answer.Answer.{Answer}
 use Rattle.repository.specs.Answers.{submissionAnswer}
@@ -17,7 +18,7 @@ use Rattle.day.specs.Report.{line, heading, longestLine, reportLine}
 use Rattle.dayrun.specs.declared.judging.Progress.{Progress}
 use Rattle.dayrun.specs.Day.{Day, Step, mostMessages, answered, stepOn, step, afterMessages, restAfter}
 use Rattle.dayrun.proofs.DayLaws.{step-none, step-one, after-more, rest-more, not-whole-left}
-use Rattle.dayrun.specs.Progress.{counted, dayOf, progressAfter, Reached, atStart, atFront, writeSize, Within, Steps, Leaves}
+use Rattle.dayrun.specs.Progress.{counted, dayOf, stepAt, progressAfter, Reached, atStart, atFront, written, writeSize, Within, Steps, Leaves}
 
 -- ---- what is counted is the step's
 
@@ -58,6 +59,16 @@ no-further n p h l m k =
       stays = λ _. (k, refl);
     }
 
+-- ---- writing out
+
+few-wait : (writes : Bool) (n : ℕ) → (writes ≡ false → n < writeSize) → choose writes 0 n < writeSize
+few-wait true n h = omega arith
+few-wait false n h = h refl
+
+pub written-within : (n most : ℕ) (writes told : Bool) (p r : Progress) → r ≡ written writes told p → (writes ≡ false → p .used < writeSize) → Within n most p → Within n writeSize r
+written-within n most writes told p r e h w =
+    subst (Within n writeSize) (sym e) (record { passed = w .passed; waiting = few-wait writes (p .used) h; lines = w .lines; messages = w .messages })
+
 -- ---- from one block to the next
 
 pub start-within : (p : Progress) → p ≡ atStart → Within 0 writeSize p
@@ -93,8 +104,8 @@ reached-start l t input p =
     let none : p .judged - p .judged ≡ 0 = omega arith in
     record { counted = omega arith; day = rw none; rest = rw none }
 
-module _ (l₀ t₀ input : List ℕ) (p₀ : Progress) (l t l′ t′ : List ℕ) (p r : Progress) (so-far : Reached l₀ t₀ input p₀ l t p) (told : r ≡ progressAfter p (step (dayOf l t p) (drop (p .at) input))) (ledger : l′ ≡ step (dayOf l t p) (drop (p .at) input) .after .ledger) (tape : t′ ≡ step (dayOf l t p) (drop (p .at) input) .after .tape) where
-  moved : r .at ≡ p .at + step (dayOf l t p) (drop (p .at) input) .taken
+module _ (l₀ t₀ input : List ℕ) (p₀ : Progress) (l t l′ t′ : List ℕ) (p r : Progress) (so-far : Reached l₀ t₀ input p₀ l t p) (told : r ≡ progressAfter p (stepAt l t input p)) (ledger : l′ ≡ stepAt l t input p .after .ledger) (tape : t′ ≡ stepAt l t input p .after .tape) where
+  moved : r .at ≡ p .at + stepAt l t input p .taken
   moved = ap (λ (x : Progress). x .at) told
 
   -- no message was whole
@@ -103,7 +114,7 @@ module _ (l₀ t₀ input : List ℕ) (p₀ : Progress) (l t l′ t′ : List �
 
   pub reached-none : r .at ≡ p .at → Reached l₀ t₀ input p₀ l′ t′ r
   reached-none e =
-      let same : step (dayOf l t p) (drop (p .at) input) .after ≡ dayOf l t p = step-none (dayOf l t p) (drop (p .at) input) (omega (arith, moved, e)) in
+      let same : stepAt l t input p .after ≡ dayOf l t p = step-none (dayOf l t p) (drop (p .at) input) (omega (arith, moved, e)) in
       let count : r .judged ≡ p .judged = ap (λ (x : Progress). x .judged) told ∙ ap (λ (x : Day). x .judged) same in
       let here : dayOf l′ t′ r ≡ dayOf l t p = day-same _ l′ t′ r ledger tape (ap (λ (x : Progress). x .judged) told) (ap (λ (x : Progress). x .published) told) ∙ same in
       record {
@@ -117,7 +128,7 @@ module _ (l₀ t₀ input : List ℕ) (p₀ : Progress) (l t l′ t′ : List �
       let k : ℕ = p .judged - p₀ .judged in
       let d : Day = dayOf l₀ t₀ p₀ in
       let xs : List ℕ = drop (p₀ .at) input in
-      let s : Step = step (dayOf l t p) (drop (p .at) input) in
+      let s : Step = stepAt l t input p in
       let s′ : Step = step (afterMessages k d xs) (restAfter k d xs) in
       let one : s .after .judged ≡ p .judged + 1 = step-one (dayOf l t p) (drop (p .at) input) (omega (arith, moved, h)) in
       let count : w .judged ≡ s .after .judged = j ∙ ap (λ (x : Progress). x .judged) told in

@@ -1,13 +1,14 @@
--- How the code counts a day's progress.
+-- The program's own state: how far the day has come, and what waits to be written. No sentence of document 01.
 use Prim.Native.Nat.{ℕ, _+_, _-_, _<_, _≤_}
-use mathlib.Core.Bool.{true, false}
+use mathlib.Core.Bool.{Bool, true, false}
 use mathlib.Core.Path.{_≡_}
 use mathlib.Core.List.{List}
 use lib.ListN.{length, drop}
+use Rattle.octets.specs.Choice.{choose}
 use Rattle.dayrun.specs.declared.judging.Progress.{Progress}
 use Rattle.day.specs.Frame.{longestFrame, isWhole}
 use Rattle.day.specs.Report.{heading, longestLine}
-use Rattle.dayrun.specs.Day.{Day, Step, mostMessages, linesOf, afterMessages, restAfter}
+use Rattle.dayrun.specs.Day.{Day, Step, mostMessages, linesOf, step, afterMessages, restAfter}
 
 -- after a message that takes so many bytes of the input and has such a line and identifier
 abbrev pub counted : Progress → ℕ → List ℕ → ℕ → Progress
@@ -17,6 +18,10 @@ counted p taken line identifier =
 -- the day that it counts, with ledger and tape buffer
 abbrev pub dayOf : List ℕ → List ℕ → Progress → Day
 dayOf l t p = record { ledger = l; tape = t; judged = p .judged; published = p .published }
+
+-- the step at the front of what is left of the input
+abbrev pub stepAt : List ℕ → List ℕ → List ℕ → Progress → Step
+stepAt l t input p = step (dayOf l t p) (drop (p .at) input)
 
 abbrev pub progressAfter : Progress → Step → Progress
 progressAfter p s =
@@ -35,6 +40,11 @@ atStart = record { at = 0; used = length heading; judged = 0; published = 0; «i
 -- what is left of the input stands at the front
 abbrev pub atFront : Progress → Progress
 atFront p = record { at = 0; used = p .used; judged = p .judged; published = p .published; «is_open» = p .«is_open» }
+
+-- where the program writes, nothing waits any more, and whether more can be written is what that write told; else all stays
+abbrev pub written : Bool → Bool → Progress → Progress
+written writes told p =
+    record { at = p .at; used = choose writes 0 (p .used); judged = p .judged; published = p .published; «is_open» = choose writes told (p .«is_open») }
 
 -- ---- bounds
 

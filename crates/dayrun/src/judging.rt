@@ -1,12 +1,12 @@
 // One message of the day: judged, and its line added to the report.
 ghost use mathlib.Core.Path.{_≡_};
 ghost use Prim.Native.Nat.{_+_, _^_, _<_, _≤_};
-ghost use lib.ListN.{length, drop};
+ghost use lib.ListN.{length};
 ghost use Rattle.octets.specs.Part.{splice};
 ghost use Rattle.day.specs.Report.{longestLine, reportLine};
-ghost use Rattle.dayrun.specs.Day.{mostMessages, linesOf, step};
+ghost use Rattle.dayrun.specs.Day.{mostMessages, linesOf};
 ghost use Rattle.dayrun.specs.Blocks.{Judged-at-once};
-ghost use Rattle.dayrun.specs.Progress.{counted, dayOf, progressAfter, Steps};
+ghost use Rattle.dayrun.specs.Progress.{counted, stepAt, progressAfter, Steps};
 use day::Frame;
 use day::LENGTH_SIZE;
 use day::next_frame;
@@ -30,7 +30,7 @@ pub struct Progress {
 }
 
 // The lines that an answer publishes.
-fn lines(identifier: u64) -> u64
+fn lines_of(identifier: u64) -> u64
     ensures { λ r. ⌜ r ≡ linesOf identifier ⌝ }
     ensures { λ r. ⌜ r ≤ 1 ⌝ }
 {
@@ -53,7 +53,7 @@ fn report(out: &mut [u8], p: Progress, taken: usize, a: Answer) -> Progress
         at: p.at + taken,
         used,
         judged: position,
-        published: p.published + lines(a.identifier),
+        published: p.published + lines_of(a.identifier),
         is_open: p.is_open,
     }
 }
@@ -70,10 +70,10 @@ pub fn judge_next(
     requires { ⌜ p .used + longestLine ≤ length (now out) ⌝ }
     requires { ⌜ p .published ≤ p .judged ⌝ }
     requires { ⌜ p .judged < mostMessages ⌝ }
-    ensures { λ r. ⌜ r ≡ progressAfter p (step (dayOf (now (ledger .entry)) (now (tape .entry)) p) (drop (p .at) (now (input .entry)))) ⌝ }
-    ensures { λ _. ⌜ now (out .exit) ≡ splice (now (out .entry)) (p .used) (step (dayOf (now (ledger .entry)) (now (tape .entry)) p) (drop (p .at) (now (input .entry))) .line) ⌝ }
-    ensures { λ _. ⌜ now (ledger .exit) ≡ step (dayOf (now (ledger .entry)) (now (tape .entry)) p) (drop (p .at) (now (input .entry))) .after .ledger ⌝ }
-    ensures { λ _. ⌜ now (tape .exit) ≡ step (dayOf (now (ledger .entry)) (now (tape .entry)) p) (drop (p .at) (now (input .entry))) .after .tape ⌝ }
+    ensures { λ r. ⌜ r ≡ progressAfter p (stepAt (now (ledger .entry)) (now (tape .entry)) (now (input .entry)) p) ⌝ }
+    ensures { λ _. ⌜ now (out .exit) ≡ splice (now (out .entry)) (p .used) (stepAt (now (ledger .entry)) (now (tape .entry)) (now (input .entry)) p .line) ⌝ }
+    ensures { λ _. ⌜ now (ledger .exit) ≡ stepAt (now (ledger .entry)) (now (tape .entry)) (now (input .entry)) p .after .ledger ⌝ }
+    ensures { λ _. ⌜ now (tape .exit) ≡ stepAt (now (ledger .entry)) (now (tape .entry)) (now (input .entry)) p .after .tape ⌝ }
     ensures { λ r. ⌜ Steps (length (now (input .entry))) p r ⌝ }
     ensures { λ _. ⌜ Judged-at-once ⌝ }
 {

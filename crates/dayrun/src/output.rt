@@ -1,7 +1,8 @@
 // The report waits in a buffer. It is written out where there is enough of it, and before a read that may wait.
-ghost use Prim.Native.Nat.{ℕ};
+ghost use mathlib.Core.Bool.{true};
 ghost use mathlib.Core.Path.{_≡_};
-ghost use Rattle.dayrun.specs.Progress.{writeSize, Within};
+ghost use lib.Dec.{leb};
+ghost use Rattle.dayrun.specs.Progress.{writeSize, written};
 use crate::judging::Progress;
 use day::LONGEST_LINE;
 use libc::STDOUT_FILENO;
@@ -14,8 +15,7 @@ pub const OUTPUT_SIZE: usize = WRITE_SIZE + LONGEST_LINE;
 
 // Writes out what waits.
 pub fn write_out(out: &[u8], p: Progress) -> Progress
-    ensures { λ r. ⌜ ((n most : ℕ) → Within n most p → Within n writeSize r) ⌝ }
-    ensures { λ r. ⌜ (r .at ≡ p .at) × (r .judged ≡ p .judged) × (r .published ≡ p .published) ⌝ }
+    ensures { λ r. ⌜ r ≡ written true (r .«is_open») p ⌝ }
 {
     let waiting = part_of(out, 0, p.used);
     let is_written = io::write_all(STDOUT_FILENO, waiting);
@@ -30,8 +30,7 @@ pub fn write_out(out: &[u8], p: Progress) -> Progress
 
 // Writes out what waits where there is enough of it.
 pub fn write_enough(out: &[u8], p: Progress) -> Progress
-    ensures { λ r. ⌜ ((n most : ℕ) → Within n most p → Within n writeSize r) ⌝ }
-    ensures { λ r. ⌜ (r .at ≡ p .at) × (r .judged ≡ p .judged) × (r .published ≡ p .published) ⌝ }
+    ensures { λ r. ⌜ r ≡ written (leb writeSize (p .used)) (r .«is_open») p ⌝ }
 {
     if WRITE_SIZE <= p.used {
         return write_out(out, p);

@@ -1,14 +1,14 @@
 // The whole run: reading, judging and writing by turns.
-ghost use Prim.Native.Nat.{ℕ, _+_, _≤_};
+ghost use Prim.Native.Nat.{_+_, _≤_};
 ghost use mathlib.Core.Path.{_≡_};
-ghost use mathlib.Core.Bool.{true};
 ghost use lib.ListN.{length};
 ghost use lib.Dec.{ltb};
+ghost use Rattle.octets.specs.Choice.{choose};
 ghost use Rattle.octets.specs.Part.{splice};
 ghost use Rattle.day.specs.Frame.{longestFrame};
 ghost use Rattle.day.specs.Report.{heading, longestLine, lastLine};
 ghost use Rattle.dayrun.specs.Day.{newDay};
-ghost use Rattle.dayrun.specs.Progress.{writeSize, blockSize, Reached, Within, Leaves, atStart, atFront};
+ghost use Rattle.dayrun.specs.Progress.{writeSize, blockSize, Reached, Within, Leaves, atStart, atFront, written};
 use crate::input::can_wait;
 use crate::input::keep_rest;
 use crate::input::read_block;
@@ -47,7 +47,7 @@ fn start(out: &mut [u8]) -> Progress
 // Adds the last line, behind so many bytes of a message that is not whole, and writes out what waits.
 fn finish(out: &mut [u8], p: Progress, kept: usize)
     requires { ⌜ p .used + longestLine ≤ length (now out) ⌝ }
-    ensures { λ _. ⌜ (p .«is_open» ≡ true → now (out .exit) ≡ splice (now (out .entry)) (p .used) (lastLine (ltb 0 kept) (p .judged) (p .published))) ⌝ }
+    ensures { λ _. ⌜ now (out .exit) ≡ choose (p .«is_open») (splice (now (out .entry)) (p .used) (lastLine (ltb 0 kept) (p .judged) (p .published))) (now (out .entry)) ⌝ }
 {
     if p.is_open {
         let used = write_last(out, p.used, 0 < kept, p.judged, p.published);
@@ -96,8 +96,7 @@ fn from_front(p: Progress) -> Progress
 
 // Writes out what waits where the next read can wait.
 fn before_read(out: &[u8], waits: bool, p: Progress) -> Progress
-    ensures { λ r. ⌜ ((n : ℕ) → Within n writeSize p → Within n writeSize r) ⌝ }
-    ensures { λ r. ⌜ (r .at ≡ p .at) × (r .judged ≡ p .judged) × (r .published ≡ p .published) ⌝ }
+    ensures { λ r. ⌜ r ≡ written waits (r .«is_open») p ⌝ }
 {
     if waits {
         return write_out(out, p);

@@ -9,7 +9,8 @@ use lib.Dec.{eqb}
 use Rattle.octets.specs.Choice.{choose, both}
 use Rattle.octets.specs.Search.{allFrom}
 use Rattle.octets.proofs.SearchLaws.{all-at}
-use Rattle.actions.specs.Elements.{lastCode, optional, needed}
+use Rattle.actions.specs.declared.elements.Needed.the-variants.{Optional}
+use Rattle.actions.specs.Elements.{lastCode, needed}
 use Rattle.elements.specs.Codes.{eventType}
 use Rattle.elements.specs.Conditions.{conditionOf, isConditional, hasIf, Conditions-agree}
 
@@ -24,7 +25,7 @@ alike-same false true e = cc
 alike-same false false e = refl
 
 agree : ℕ → Bool
-agree code = alike (isConditional (conditionOf code)) (both (not (eqb code eventType)) (hasIf (getD needed code optional)))
+agree code = alike (isConditional (conditionOf code)) (both (not (eqb code eventType)) (hasIf (getD needed code Optional)))
 
 pub conditions-agree : Conditions-agree
 unfolding agree allFrom conditionOf

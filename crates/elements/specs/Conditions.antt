@@ -10,7 +10,9 @@ use Rattle.octets.specs.Text.{text}
 use Rattle.octets.specs.Same.{sameBytes}
 use Rattle.values.specs.Code.{isTrue}
 use Rattle.message.specs.Values.{value}
-use Rattle.actions.specs.Elements.{lastCode, Needed, all, full, conditional, optional, needed}
+use Rattle.actions.specs.declared.elements.Needed.{Needed}
+use Rattle.actions.specs.declared.elements.Needed.the-variants.{All, Full, Conditional, Optional}
+use Rattle.actions.specs.Elements.{lastCode, needed}
 use Rattle.elements.specs.Codes.{eventType, cleared, nonStandardizedTerm, packageIndicator, packageIdentifier, packagePrice, priceNotation, priceCurrency}
 use Rattle.elements.specs.declared.conditions.Condition.{Condition}
 use Rattle.elements.specs.declared.conditions.Condition.the-variants.{Unconditional, ClearedIsN, Package, PackageInCurrency}
@@ -47,13 +49,13 @@ isConditional PackageInCurrency = true
 
 -- the same column in the table of needed elements: it has an "if" at just these codes; code 3 is needed by pair
 abbrev pub hasIf : Needed → Bool
-hasIf all = false
-hasIf full = false
-hasIf conditional = true
-hasIf optional = false
+hasIf All = false
+hasIf Full = false
+hasIf Conditional = true
+hasIf Optional = false
 
 abbrev pub Conditions-agree : Type 0
-Conditions-agree = (code : ℕ) → code ≤ lastCode → isConditional (conditionOf code) ≡ both (not (eqb code eventType)) (hasIf (getD needed code optional))
+Conditions-agree = (code : ℕ) → code ≤ lastCode → isConditional (conditionOf code) ≡ both (not (eqb code eventType)) (hasIf (getD needed code Optional))
 
 -- the element has an "if", and it is met
 unfoldable pub isDue : ℕ → List ℕ → Bool

@@ -1,12 +1,12 @@
 // The forms of values, by their place in the list of words.
-use crate::LONGEST_MESSAGE;
 use crate::hex;
+use repository::LONGEST_MESSAGE;
 
 pub const COUNT: usize = 17;
 
 // The place of a word among those of the forms, or their number.
 pub fn place(word: &[u8]) -> usize {
-    crate::place_in(
+    crate::word_place(
         word,
         b"uti event package currency location truth cleared allocation notation class lei price notional date time action layout",
     )

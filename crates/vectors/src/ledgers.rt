@@ -29,7 +29,7 @@ const LARGEST: u64 = 4_294_967_295;
 
 // The place of a word among those of the ledgers, or their number.
 pub fn place(word: &[u8]) -> usize {
-    crate::place_in(word, b"capacity capof header place row raise tape")
+    crate::word_place(word, b"capacity capof header place row raise tape")
 }
 
 pub fn answer(place: usize, line: &[u8]) {

@@ -1,19 +1,19 @@
 // What is shown and judged of whole values and messages, by the place of the question in the list of words.
 ghost use Prim.Native.Nat.{_≤_};
 ghost use Rattle.notional.specs.Masking.{largestCap};
-use crate::LONGEST_MESSAGE;
 use crate::fields::bytes_at;
 use crate::fields::field_at;
 use crate::fields::number_at;
 use crate::hex;
 use notional::LARGEST_CAP;
 use octets::part_of;
+use repository::LONGEST_MESSAGE;
 
 pub const COUNT: usize = 5;
 
 // The place of a word among those of the lines, or their number.
 pub fn place(word: &[u8]) -> usize {
-    crate::place_in(word, b"cap shown verdict masked terms")
+    crate::word_place(word, b"cap shown verdict masked terms")
 }
 
 pub fn answer(place: usize, rest: &[u8]) {

@@ -18,9 +18,6 @@ const LINE: usize = 5000;
 
 const LINES: usize = 1_000_000;
 
-// The longest message.
-const LONGEST_MESSAGE: usize = 2048;
-
 // The numbers that fit 16 bits, as a code does.
 const CODES: u64 = 65_536;
 
@@ -87,7 +84,7 @@ fn answer_line(line: &[u8]) {
 }
 
 // The place of a word in a list of words with a space between them, or their number where the list has it not.
-fn place_in(word: &[u8], words: &[u8]) -> usize {
+fn word_place(word: &[u8], words: &[u8]) -> usize {
     let mut at: usize = 0;
     let mut place: usize = 0;
     while at < words.len() {

@@ -12,7 +12,7 @@ const ACTION: usize = 4;
 
 // The place of a word among those of the tables, or their number.
 pub fn place(word: &[u8]) -> usize {
-    crate::place_in(word, b"pair step takes needs line")
+    crate::word_place(word, b"pair step takes needs line")
 }
 
 pub fn answer(place: usize, rest: &[u8]) {

@@ -7,7 +7,7 @@ use Rattle.octets.specs.Same.{sameBytes, place, oneOf, beside}
 use Rattle.octets.specs.Search.{firstFrom, allFrom}
 use Rattle.octets.specs.Text.{text}
 use Rattle.values.specs.Code.{isTrue, isFalse, isTruth, isCleared, isAllocation, isNotation, isAssetClass}
-use Rattle.values.specs.Lei.{grow, spell, isLei}
+use Rattle.values.specs.Lei.{weight, number, grow, spell, isLei}
 use Rattle.values.specs.Run.{runOf}
 use Rattle.numbers.specs.Numbers.{pointIn, wholeOf, decimalsOf, isNumber, unsignedOf, isPrice}
 use Rattle.dates.specs.Dates.{fitsPattern, twoDigits, leap, daysIn, gregorian, namesDate, isDate, isTime, before}
@@ -43,7 +43,7 @@ unfolding field bytesOf fromLe toLe digits splice sameBytes place oneOf beside f
 bytes = tt
 
 forms : Unit {0}
-unfolding isTrue isFalse isTruth isCleared isAllocation isNotation isAssetClass grow spell isLei runOf pointIn wholeOf decimalsOf isNumber unsignedOf isPrice fitsPattern twoDigits leap daysIn gregorian namesDate isDate isTime before
+unfolding isTrue isFalse isTruth isCleared isAllocation isNotation isAssetClass weight number grow spell isLei runOf pointIn wholeOf decimalsOf isNumber unsignedOf isPrice fitsPattern twoDigits leap daysIn gregorian namesDate isDate isTime before
 forms = tt
 
 reading : Unit {0}

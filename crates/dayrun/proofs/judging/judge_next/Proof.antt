@@ -15,8 +15,8 @@ use Rattle.rules.specs.Verdicts.{layoutWrong}
 use Rattle.repository.specs.Answers.{submissionAnswer}
 use Rattle.day.specs.declared.frame.Frame.the-variants.{Message, Overlong, Partial}
 use Rattle.day.specs.Frame.{lengthSize, frameOf, longestFrame, Fits}
-use Rattle.dayrun.specs.Day.{Step, answered, stepOn, step}
-use Rattle.dayrun.specs.Progress.{dayOf, progressAfter}
+use Rattle.dayrun.specs.Day.{Step, answered, stepOn}
+use Rattle.dayrun.specs.Progress.{dayOf, stepAt, progressAfter}
 use Rattle.dayrun.proofs.DayLaws.{step-on, judged-at-once}
 use Rattle.dayrun.proofs.ProgressLaws.{told-progress, told-line, unmoved, one-further, no-further}
 use Rattle.dayrun.proofs.judging.judge_next.Statement.{statement}
@@ -73,7 +73,7 @@ returns c =
     let judged : List ℕ → Submitted = λ x. submitted documentLimits (now (a .ledger)) (now (a .tape)) x in
     let sent : now (m .part-of .result) ≡ part (rest f) lengthSize size =
     m .part-of .ensures .0 ∙ ap (λ (xs : List ℕ). part xs lengthSize size) (all-lent (now (a .input)) (a .p .at)) in
-    let told : step (dayOf (now (a .ledger)) (now (a .tape)) (a .p)) (rest f) ≡ answered (dayOf (now (a .ledger)) (now (a .tape)) (a .p)) size (judged (part (rest f) lengthSize size)) =
+    let told : stepAt (now (a .ledger)) (now (a .tape)) (now (a .input)) (a .p) ≡ answered (dayOf (now (a .ledger)) (now (a .tape)) (a .p)) size (judged (part (rest f) lengthSize size)) =
     step-on _ (rest f) (Message size) (sym (front f) ∙ n .n .given .1) in
     let same : k .submit .result ≡ submissionAnswer (judged (part (rest f) lengthSize size)) = k .submit .ensures .0 ∙ ap (λ (x : List ℕ). submissionAnswer (judged x)) sent in (
       r .report .ensures .0 ∙ told-progress _ _ (rest f) (a .p) size _ told _ same,
@@ -97,7 +97,7 @@ returns-2 c =
     let f = n .before .before in
     let a = start f .args in
     let size = n .n2 .given .0 .0 in
-    let told : step (dayOf (now (a .ledger)) (now (a .tape)) (a .p)) (rest f) ≡ answered (dayOf (now (a .ledger)) (now (a .tape)) (a .p)) size (refused (layoutWrong, 0) (now (a .ledger)) (now (a .tape))) =
+    let told : stepAt (now (a .ledger)) (now (a .tape)) (now (a .input)) (a .p) ≡ answered (dayOf (now (a .ledger)) (now (a .tape)) (a .p)) size (refused (layoutWrong, 0) (now (a .ledger)) (now (a .tape))) =
     step-on _ (rest f) (Overlong size) (sym (front f) ∙ n .n2 .given .1) in (
       r .report2 .ensures .0 ∙ told-progress _ _ (rest f) (a .p) size _ told _ (k .refusal .ensures),
       (
@@ -116,7 +116,7 @@ returns-3 : tie.Need-returns-3
 returns-3 c =
     let f = c .before .before in
     let a = start f .args in
-    let told : step (dayOf (now (a .ledger)) (now (a .tape)) (a .p)) (rest f) ≡ stepOn (dayOf (now (a .ledger)) (now (a .tape)) (a .p)) (rest f) Partial =
+    let told : stepAt (now (a .ledger)) (now (a .tape)) (now (a .input)) (a .p) ≡ stepOn (dayOf (now (a .ledger)) (now (a .tape)) (a .p)) (rest f) Partial =
     step-on _ (rest f) Partial (sym (front f) ∙ c .enum-told .given .1) in
     let short : length (rest f) < longestFrame = subst (Fits (rest f)) (c .enum-told .given .1) (fits f) in (
       unmoved (now (a .ledger)) (now (a .tape)) (rest f) (a .p) ∙ ap (progressAfter (a .p)) (sym told),

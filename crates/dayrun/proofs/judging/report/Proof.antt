@@ -13,7 +13,7 @@ returns c =
     let p = w .before .before .before .before .args .p in
     let taken = w .before .before .before .before .args .taken in
     let row : ℕ → ℕ → Progress = λ used lines. record { at = p .at + taken; used = used; judged = p .judged + 1; published = p .published + lines; «is_open» = p .«is_open» } in (
-      ap (λ (u : ℕ). row u (c .before .lines .result)) (w .write-line .ensures .0 .place) ∙ ap (row _) (c .before .lines .ensures .0),
+      ap (λ (u : ℕ). row u (c .before .lines-of .result)) (w .write-line .ensures .0 .place) ∙ ap (row _) (c .before .lines-of .ensures .0),
       (w .write-line .ensures .0 .bytes, (refl, w .write-line .ensures .1, refl, omega arith)),
     )
 

@@ -1,12 +1,15 @@
 -- `dayrun::run::finish` meets its contract. Assumes nothing.
-use mathlib.Core.Bool.{false≢true}
-use mathlib.Core.Path.{sym, _∙_}
 use borrow.Author.Needs.{needs}
 use Rattle.dayrun.proofs.run.finish.Statement.{statement}
 use Rattle.dayrun.proofs.run.finish.Tie as tie
 
+returns : tie.Need-returns
+returns c =
+    let w = c .before .before .before .before .before in
+    rw (w .before .before .if1 .taken) (w .write-last .ensures .0 .bytes)
+
 returns-2 : tie.Need-returns-2
-returns-2 c = λ o. absurd (false≢true (sym (c .if1 .left) ∙ o))
+returns-2 c = rw (c .if1 .left)
 
 pub finish-spec : {M : Type 1} → statement M
 finish-spec =
@@ -16,5 +19,5 @@ finish-spec =
     (λ c κs. search needs)
     (λ c κs. search needs)
     (λ c. search needs)
-    (λ c. search needs)
+    returns
     returns-2)

@@ -1,14 +1,15 @@
 -- `dayrun::run::judge_block` meets its contract. The invariant: the progress is within the input. Assumes nothing.
 use Prim.Native.Nat.{_-_, _<_}
 use mathlib.Core.Bool.{false≢true}
-use mathlib.Core.Path.{_≡_, refl, sym, _∙_}
+use mathlib.Core.Path.{_≡_, refl, sym, ap, _∙_}
 use native.Mathlib.Omega.{arith}
 use lib.ListN.{length}
 use borrow.Author.Needs.{needs}
-use borrow.Author.Tests.{ltb-false}
+use borrow.Author.Tests.{ltb-false, leb-false}
+use Rattle.dayrun.specs.declared.judging.Progress.{Progress}
 use Rattle.dayrun.specs.Day.{mostMessages}
 use Rattle.dayrun.specs.Progress.{writeSize, Reached, Within}
-use Rattle.dayrun.proofs.ProgressLaws.{reached-start, none-left, reached-none, reached-more}
+use Rattle.dayrun.proofs.ProgressLaws.{written-within, reached-start, none-left, reached-none, reached-more}
 use Rattle.dayrun.proofs.run.judge_block.Statement.{statement}
 use Rattle.dayrun.proofs.run.judge_block.Tie as tie
 
@@ -49,7 +50,7 @@ loop-less : tie.Need-loop-less Inv-loop μ-loop
 loop-less c =
     let e = c .before .before in
     let s = e .before .before .before .before .before .before .before .before .judge-next .ensures .1 .1 .1 .1 .0 in
-    omega (arith, c .write-enough .ensures .1 .1, s .within .messages, s .counts (forward e))
+    omega (arith, ap (λ (x : Progress). x .judged) (c .write-enough .ensures), s .within .messages, s .counts (forward e))
 
 loop-again : tie.Need-loop-again Inv-loop μ-loop
 loop-again c =
@@ -60,8 +61,8 @@ loop-again c =
       omega (arith, l .inv .0, e .before .before .before .before .before .before .before .ledger .given),
       omega (arith, l .inv .1, e .before .before .before .before .before .tape .given),
       omega (arith, l .inv .2, e .before .before .before .out .given),
-      w .0 _ _ (told .1 .1 .1 .1 .0 .within),
-      reached-more _ _ _ _ _ _ _ _ (l .p) _ (l .inv .4) (told .0) (told .1 .1 .0) (told .1 .1 .1 .0) _ (forward e) (w .1 .0) (w .1 .1) (w .1 .2),
+      written-within _ _ _ _ _ _ w (leb-false _ _) (told .1 .1 .1 .1 .0 .within),
+      reached-more _ _ _ _ _ _ _ _ (l .p) _ (l .inv .4) (told .0) (told .1 .1 .0) (told .1 .1 .1 .0) _ (forward e) (ap (λ (x : Progress). x .at) w) (ap (λ (x : Progress). x .judged) w) (ap (λ (x : Progress). x .published) w),
     )
 
 returns-2 : tie.Need-returns-2 Inv-loop μ-loop

@@ -1,5 +1,5 @@
 -- `dayrun::run::run` meets its contract. The invariant: a read has room for a block, and a line for its bytes. Assumes nothing.
-use Prim.Native.Nat.{_+_, _-_, _<_, _≤_}
+use Prim.Native.Nat.{_+_, _<_, _≤_}
 use mathlib.Core.Bool.{true}
 use mathlib.Core.Path.{_≡_, refl, ap, _∙_}
 use native.Mathlib.Omega.{arith}
@@ -12,7 +12,7 @@ use Rattle.day.specs.Frame.{longestFrame}
 use Rattle.day.specs.Report.{longestLine}
 use Rattle.dayrun.specs.Day.{mostMessages}
 use Rattle.dayrun.specs.Progress.{writeSize, blockSize, Within}
-use Rattle.dayrun.proofs.ProgressLaws.{start-within, from-start, front-within, front-leaves}
+use Rattle.dayrun.proofs.ProgressLaws.{written-within, start-within, from-start, front-within, front-leaves}
 use Rattle.dayrun.proofs.run.run.Statement.{statement}
 use Rattle.dayrun.proofs.run.run.Tie as tie
 
@@ -40,7 +40,10 @@ room c =
     l .inv .7 (c .before .before .before .before .if1 .taken) (ltb-true (l .p .judged) mostMessages (c .before .before .if2 .taken))
 
 waiting : (c : tie.After-before-read Inv-loop μ-loop) → Within 0 writeSize (c .before-read .result)
-waiting c = c .before-read .ensures .0 0 (c .before .before .before .before .before .before .loop .inv .6)
+waiting c =
+    let l = c .before .before .before .before .before .before in
+    let w = l .loop .inv .6 in
+    written-within 0 writeSize (l .before .before .before .before .before .can-wait .result) _ _ _ (c .before-read .ensures) (λ _. w .waiting) w
 
 -- what is judged is what is kept and what came
 size : (c : tie.After-part-of Inv-loop μ-loop) → length (now (c .part-of .result)) ≡ c .before .before .before .before .before .before .before .before .before .before .before .before .before .before .before .loop .kept + c .before .before .before .before .before .before .before .read-block .result

@@ -1,9 +1,9 @@
--- `dayrun::judging::lines` meets its contract. Assumes nothing.
+-- `dayrun::judging::lines_of` meets its contract. Assumes nothing.
 use native.Mathlib.Omega.{arith}
 use borrow.Author.Tests.{eq-eqb, ne-eqb}
 use Rattle.dayrun.specs.Day.{linesOf}
-use Rattle.dayrun.proofs.judging.lines.Statement.{statement}
-use Rattle.dayrun.proofs.judging.lines.Tie as tie
+use Rattle.dayrun.proofs.judging.lines_of.Statement.{statement}
+use Rattle.dayrun.proofs.judging.lines_of.Tie as tie
 
 returns : tie.Need-returns
 unfolding linesOf
@@ -13,5 +13,5 @@ returns-2 : tie.Need-returns-2
 unfolding linesOf
 returns-2 c = (rw (ne-eqb _ _ (c .if1 .left)), omega arith)
 
-pub lines-spec : {M : Type 1} → statement M
-lines-spec = tie.close (tie.spec returns returns-2)
+pub lines-of-spec : {M : Type 1} → statement M
+lines-of-spec = tie.close (tie.spec returns returns-2)
