@@ -40,8 +40,14 @@ storedTime r = part r termsAt timeSize
 -- ---- the swap's row
 
 -- equal length and that many equal UTI bytes; padding is not compared
+abbrev pub utiLength : List ℕ → ℕ
+utiLength r = getD r lengthAt 0
+
+abbrev pub hasBytes : List ℕ → List ℕ → Bool
+hasBytes u r = sameBytes (part r utiAt (length u)) u
+
 unfoldable pub holdsUti : List ℕ → List ℕ → Bool
-holdsUti u r = both (eqb (getD r lengthAt 0) (length u)) (sameBytes (part r utiAt (length u)) u)
+holdsUti u r = both (eqb (utiLength r) (length u)) (hasBytes u r)
 
 -- the place of the first of so many rows that holds the UTI, their number where none does
 unfoldable pub placeIn : List ℕ → ℕ → List ℕ → ℕ

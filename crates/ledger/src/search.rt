@@ -3,7 +3,7 @@ ghost use mathlib.Core.Path.{_≡_};
 ghost use Prim.Native.Nat.{_+_, _≤_};
 ghost use lib.ListN.{length};
 ghost use Rattle.ledger.specs.Layout.{rowSize, rowStart};
-ghost use Rattle.ledger.specs.Rows.{rowAt, statusOf, identifierOf, storedTerms, storedTime, holdsUti, placeIn};
+ghost use Rattle.ledger.specs.Rows.{rowAt, statusOf, identifierOf, storedTerms, storedTime, utiLength, hasBytes, placeIn};
 use crate::layout::HEADER_SIZE;
 use crate::layout::IDENTIFIER_AT;
 use crate::layout::LENGTH_AT;
@@ -61,27 +61,37 @@ pub fn time_at<'a>(l: &'a [u8], k: usize) -> &'a [u8]
     part_of(row_at(l, k), TERMS_AT, TIME_SIZE)
 }
 
-// Whether the row at a place is the swap's: equal length, and that many equal bytes, compared from the last one.
-fn holds_uti(l: &[u8], k: usize, uti: &[u8]) -> bool
+// The length of the UTI in the row at a place.
+fn length_at(l: &[u8], k: usize) -> usize
     requires { ⌜ rowStart (k + 1) ≤ length (now l) ⌝ }
-    ensures { λ r. ⌜ r ≡ holdsUti (now (uti .entry)) (rowAt (now (l .entry)) k) ⌝ }
+    ensures { λ r. ⌜ r ≡ utiLength (rowAt (now (l .entry)) k) ⌝ }
 {
     let row = row_at(l, k);
-    let n = uti.len();
-    if row[LENGTH_AT] as usize != n {
-        return false;
-    }
-    same(part_of(row, UTI_AT, n), uti)
+    row[LENGTH_AT] as usize
 }
 
-// The place of the first of so many rows that is the swap's; their number where none is.
+// Whether the row at a place has the UTI's bytes.
+fn has_bytes(l: &[u8], k: usize, uti: &[u8]) -> bool
+    requires { ⌜ rowStart (k + 1) ≤ length (now l) ⌝ }
+    ensures { λ r. ⌜ r ≡ hasBytes (now (uti .entry)) (rowAt (now (l .entry)) k) ⌝ }
+{
+    same(part_of(row_at(l, k), UTI_AT, uti.len()), uti)
+}
+
+// The place of the first of so many rows that is the swap's; their number where none is. The length is compared first: rows of
+// another length are passed over at once.
 pub fn find_row(l: &[u8], rows: usize, uti: &[u8]) -> usize
     requires { ⌜ rowStart rows ≤ length (now l) ⌝ }
     ensures { λ r. ⌜ (r ≡ placeIn (now (l .entry)) rows (now (uti .entry))) × (r ≤ rows) ⌝ }
 {
+    let n = uti.len();
     let mut k = 0;
     while k < rows {
-        if holds_uti(l, k, uti) {
+        if length_at(l, k) != n {
+            k += 1;
+            continue;
+        }
+        if has_bytes(l, k, uti) {
             return k;
         }
         k += 1;

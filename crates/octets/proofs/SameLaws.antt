@@ -2,12 +2,12 @@
 use mathlib.Core.Path.{_≡_, refl, sym, ap, _∙_}
 use mathlib.Core.Bool.{Bool, true, false, false≢true}
 use mathlib.Core.List.{List, [], _∷_, _++_, append-assoc}
-use Prim.Native.Nat.{ℕ, suc, _+_, _*_, _<_}
+use Prim.Native.Nat.{ℕ, suc, _+_, _*_, _<_, _≤_}
 use Prim.Native.String.{String}
 use native.Mathlib.Omega.{arith}
 use native.Mathlib.Nat.{suc-mul, zero-mul, add-zero, zero-add}
-use lib.ListN.{length, getD, drop, length-append}
-use lib.Seq.{drop-cons, take-at, drop-at}
+use lib.ListN.{length, getD, drop, length-append, drop-of-length-le}
+use lib.Seq.{drop-cons, take-at, drop-at, drop-length}
 use lib.Dec.{ltb, eqb}
 use borrow.Author.Tests.{eqb-true, eq-eqb}
 use Rattle.octets.specs.Choice.{choose, both}
@@ -33,6 +33,12 @@ same-cons x y xs ys true e rec h =
 same-cons x y xs ys false e rec h =
     let z : false ≡ true = rw e at h in
     cc
+
+-- behind the end nothing differs
+pub ends-same : (xs ys : List ℕ) → length xs ≡ length ys → drop (length xs) xs ≡ drop (length xs) ys
+ends-same xs ys l =
+    let past : length ys ≤ length xs = omega arith in
+    drop-length xs ∙ sym (drop-of-length-le ys past)
 
 pub same-true : (xs ys : List ℕ) → sameBytes xs ys ≡ true → xs ≡ ys
 unfolding sameBytes

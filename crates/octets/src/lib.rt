@@ -51,13 +51,11 @@ fn same_front(a: &[u8], b: &[u8], n: usize) -> bool
     true
 }
 
-// Whether a and b hold the same bytes, compared from the last one: UTIs of one issuer differ at their end. Eight at a time.
-pub fn same(a: &[u8], b: &[u8]) -> bool
+// Whether a and b, which are as long, hold the same bytes, compared from the last ones on, eight at a time.
+fn same_words(a: &[u8], b: &[u8]) -> bool
+    requires { ⌜ length (now a) ≡ length (now b) ⌝ }
     ensures { λ r. ⌜ r ≡ sameBytes (now (a .entry)) (now (b .entry)) ⌝ }
 {
-    if a.len() != b.len() {
-        return false;
-    }
     let mut i = a.len();
     while WORD <= i {
         let at = i - WORD;
@@ -67,6 +65,20 @@ pub fn same(a: &[u8], b: &[u8]) -> bool
         i = at;
     }
     same_front(a, b, i)
+}
+
+// Whether a and b hold the same bytes. They are compared from the end: UTIs of one issuer share their beginning.
+pub fn same(a: &[u8], b: &[u8]) -> bool
+    ensures { λ r. ⌜ r ≡ sameBytes (now (a .entry)) (now (b .entry)) ⌝ }
+{
+    let n = a.len();
+    if n != b.len() {
+        return false;
+    }
+    if n < WORD {
+        return same_front(a, b, n);
+    }
+    same_words(a, b)
 }
 
 // The place of the first of `count` codes, each `width` bytes wide, that is the value; `count` where none is.

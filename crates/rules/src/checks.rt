@@ -86,6 +86,17 @@ pub fn lowest_fault(m: &[u8], action: Action, check: Check) -> Checked
     Checked::Value(action)
 }
 
+// The lowest element code that the action does not take, or the action. A full action takes every code, so nothing is looked at.
+pub fn lowest_not_taken(m: &[u8], action: Action) -> Checked
+    requires { ⌜ Laid (now m) ⌝ }
+    ensures { λ r. ⌜ r ≡ answerOf action (lowest (atFault Check.Taken action (now (m .entry)))) ⌝ }
+{
+    if actions::is_full(action) {
+        return Checked::Value(action);
+    }
+    lowest_fault(m, action, Check::Taken)
+}
+
 // Whether an unsigned number has more digits than a price with notation 3 may have.
 fn is_long_price(v: &[u8]) -> bool
     ensures { λ r. ⌜ r ≡ longPrice (now (v .entry)) ⌝ }

@@ -13,6 +13,7 @@ use checks::Check;
 use checks::is_out_of_order;
 use checks::is_price_too_long;
 use checks::lowest_fault;
+use checks::lowest_not_taken;
 use elements::EVENT_TYPE;
 use message::element;
 use verdicts::DUE_MISSING;
@@ -54,7 +55,7 @@ pub fn judge(m: &[u8], longest: usize) -> Judged
     let Checked::Value(action) = needed else {
         return refused_by(NEEDED_MISSING, needed);
     };
-    let taken = lowest_fault(m, action, Check::Taken);
+    let taken = lowest_not_taken(m, action);
     let Checked::Value(action) = taken else {
         return refused_by(NOT_TAKEN, taken);
     };

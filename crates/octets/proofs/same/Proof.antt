@@ -1,77 +1,21 @@
--- `octets::same` meets its contract. The invariant: from i on the bytes are the same. Assumes nothing.
-use Prim.Native.Nat.{ℕ, _+_, _-_, _<_, _≤_}
-use mathlib.Core.Path.{_≡_, refl, sym, ap, ap₂, _∙_}
-use mathlib.Core.List.{List, _++_}
-use native.Mathlib.Omega.{arith}
-use lib.ListN.{length, take, drop, length-take, length-drop, take-append-drop, drop-of-length-le}
-use lib.Seq.{drop-drop, drop-length}
+-- `octets::same` meets its contract. Assumes nothing.
+use mathlib.Core.Path.{_≡_, sym, ap}
 use denote.Ref.{now}
-use Rattle.octets.specs.Number.{fromLe}
-use Rattle.octets.proofs.SameLaws.{same-false}
-use Rattle.octets.proofs.NumberLaws.{Bytes, fromLe-same, part-bytes}
+use native.Mathlib.Omega.{arith}
+use lib.ListN.{length}
+use Rattle.octets.proofs.SameLaws.{same-false, ends-same}
 use borrow.Author.Needs.{needs}
 use Rattle.octets.proofs.same.Statement.{statement}
 use Rattle.octets.proofs.same.Tie as tie
 
-abbrev Inv-loop : tie.InvT-loop
-Inv-loop a b i₀ i = (i ≤ length a) × (length a ≡ length b) × (drop i a ≡ drop i b)
-
-abbrev μ-loop : tie.MeasureT-loop
-μ-loop a b i₀ i = i
-
--- the same word before bytes that are the same
-word-more : (a b : List ℕ) (at n i : ℕ) → at + n ≡ i → length a ≡ length b → Bytes a → Bytes b → fromLe (take n (drop at a)) ≡ fromLe (take n (drop at b)) → drop i a ≡ drop i b → drop at a ≡ drop at b
-word-more a b at n i s l f g e r =
-    let lengths : length (take n (drop at a)) ≡ length (take n (drop at b)) = omega (arith, length-take n (drop at a), length-take n (drop at b), length-drop at a, length-drop at b) in
-    let word : take n (drop at a) ≡ take n (drop at b) = fromLe-same (take n (drop at a)) (take n (drop at b)) lengths (part-bytes a at n f) (part-bytes b at n g) e in
-    let rest : drop n (drop at a) ≡ drop n (drop at b) = drop-drop n at a ∙ ap (λ (k : ℕ). drop k a) s ∙ r ∙ sym (drop-drop n at b ∙ ap (λ (k : ℕ). drop k b) s) in
-    sym (take-append-drop n (drop at a)) ∙ ap₂ _++_ word rest ∙ take-append-drop n (drop at b)
-
-returns : tie.Need-returns Inv-loop μ-loop
+returns : tie.Need-returns
 returns c = sym (same-false _ _ (λ e. omega (arith, ap length e, c .if1 .taken)))
 
-loop-holds : tie.Need-loop-holds Inv-loop μ-loop
-loop-holds c =
-    let a = now (c .before .before .before .args .a) in
-    let b = now (c .before .before .before .args .b) in
-    let l : length a ≡ length b = c .if1 .left in
-    let past : length b ≤ length a = omega arith in
-    (search needs, l, drop-length a ∙ sym (drop-of-length-le b past))
-
-returns-2 : tie.Need-returns-2 Inv-loop μ-loop
-returns-2 c =
-    let l = c .before .before .before .before .before .before .loop in
-    let at : ℕ = l .i - 8 in
-    sym (same-false _ _ (λ e. c .if2 .taken (c .before .before .before .read-le .ensures .0 ∙ ap (λ (xs : List ℕ). fromLe (take (l .i - at) (drop at xs))) e ∙ sym (c .before .read-le2 .ensures .0))))
-
-loop-again : tie.Need-loop-again Inv-loop μ-loop
-loop-again c =
-    let l = c .before .before .before .before .before .before .loop in
-    let known = c .before .before .before .before .before .before .before .before in
-    let a = now (known .before .before .args .a) in
-    let b = now (known .before .before .args .b) in
-    let at : ℕ = l .i - 8 in
-    let words : fromLe (take (l .i - at) (drop at a)) ≡ fromLe (take (l .i - at) (drop at b)) = sym (c .before .before .before .read-le .ensures .0) ∙ c .if2 .left ∙ c .before .read-le2 .ensures .0 in
-    (omega arith, l .inv .1, word-more a b at (l .i - at) (l .i) (omega arith) (l .inv .1) (λ k. known .before .shared-slice-known .given k .fits) (λ k. known .shared-slice-known2 .given k .fits) words (l .inv .2))
+same-front-requires : tie.Need-same-front-requires
+same-front-requires c κs =
+    let a = c .before .before .before .before .args in
+    let l : length (now (a .a)) ≡ length (now (a .b)) = search needs in
+    (l, search needs, ends-same (now (a .a)) (now (a .b)) l)
 
 pub same-spec : {M : Type 1} → statement M
-same-spec =
-    tie.close
-    (tie.spec
-    Inv-loop
-    μ-loop
-    returns
-    loop-holds
-    (λ c. search needs)
-    (λ c. search needs)
-    (λ c. search needs)
-    (λ c κs. search needs)
-    (λ c. search needs)
-    (λ c. search needs)
-    (λ c. search needs)
-    (λ c κs. search needs)
-    returns-2
-    (λ c. omega arith)
-    loop-again
-    (λ c κs. search needs)
-    (λ c. search needs))
+same-spec = tie.close (tie.spec returns same-front-requires (λ c. search needs) (λ c κs. search needs) (λ c. search needs))

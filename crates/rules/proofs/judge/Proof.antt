@@ -102,11 +102,11 @@ at2 c = at1 (c .before .before .before .before) ∙ check-on neededAt _ _ (lit< 
 
 at3 : (c : tie.After-known-told3) → j0 (r3 c) ≡ left formedAt (a3 c) (m0 (r3 c))
 unfolding rulesOf
-at3 c = at2 (c .before .before .before .before) ∙ check-on takenAt _ _ (lit< tt) (a3 c) (sym (c .before .before .before .lowest-fault2 .ensures) ∙ c .before .taken .given .1)
+at3 c = at2 (c .before .before .before .before) ∙ check-on takenAt _ _ (lit< tt) (a3 c) (sym (c .before .before .before .lowest-not-taken .ensures) ∙ c .before .taken .given .1)
 
 at4 : (c : tie.After-known-told4) → j0 (r4 c) ≡ left pairAt (a4 c) (m0 (r4 c))
 unfolding rulesOf
-at4 c = at3 (c .before .before .before .before) ∙ check-on formedAt _ _ (lit< tt) (a4 c) (sym (c .before .before .before .lowest-fault3 .ensures) ∙ c .before .formed .given .1)
+at4 c = at3 (c .before .before .before .before) ∙ check-on formedAt _ _ (lit< tt) (a4 c) (sym (c .before .before .before .lowest-fault2 .ensures) ∙ c .before .formed .given .1)
 
 -- the pair of action and event
 pair : (c : tie.After-is-pair) → c .is-pair .result ≡ pairAllowed (a4 (c .before .before)) (value eventType (m0 (r4 (c .before .before))))
@@ -118,7 +118,7 @@ at5 c = at4 (c .before .before .before) ∙ test-on pairAt _ _ (lit< tt) (not (p
 
 at6 : (c : tie.After-known-told5) → j0 (r6 c) ≡ left priceAt (a6 c) (m0 (r6 c))
 unfolding rulesOf
-at6 c = at5 (c .before .before .before .before) ∙ check-on dueAt _ _ (lit< tt) (a6 c) (sym (c .before .before .before .lowest-fault4 .ensures) ∙ c .before .due .given .1)
+at6 c = at5 (c .before .before .before .before) ∙ check-on dueAt _ _ (lit< tt) (a6 c) (sym (c .before .before .before .lowest-fault3 .ensures) ∙ c .before .due .given .1)
 
 at7 : (c : tie.Else3) → j0 (r7 c) ≡ left orderAt (a6 (c .before .before)) (m0 (r7 c))
 unfolding rulesOf
@@ -146,13 +146,13 @@ returns-4 : tie.Need-returns-4
 unfolding rulesOf
 returns-4 c =
     let fault = c .before .enum-told3 .given .1 in
-    c .refused-by3 .ensures ∙ ap (refusedBy notTaken) fault ∙ sym (at2 (c .before .before .before .before) ∙ check-stop takenAt _ _ (lit< tt) _ refl (sym (c .before .before .before .lowest-fault2 .ensures) ∙ fault))
+    c .refused-by3 .ensures ∙ ap (refusedBy notTaken) fault ∙ sym (at2 (c .before .before .before .before) ∙ check-stop takenAt _ _ (lit< tt) _ refl (sym (c .before .before .before .lowest-not-taken .ensures) ∙ fault))
 
 returns-5 : tie.Need-returns-5
 unfolding rulesOf
 returns-5 c =
     let fault = c .before .enum-told4 .given .1 in
-    c .refused-by4 .ensures ∙ ap (refusedBy formBroken) fault ∙ sym (at3 (c .before .before .before .before) ∙ check-stop formedAt _ _ (lit< tt) _ refl (sym (c .before .before .before .lowest-fault3 .ensures) ∙ fault))
+    c .refused-by4 .ensures ∙ ap (refusedBy formBroken) fault ∙ sym (at3 (c .before .before .before .before) ∙ check-stop formedAt _ _ (lit< tt) _ refl (sym (c .before .before .before .lowest-fault2 .ensures) ∙ fault))
 
 returns-6 : tie.Need-returns-6
 unfolding rulesOf
@@ -162,7 +162,7 @@ returns-7 : tie.Need-returns-7
 unfolding rulesOf
 returns-7 c =
     let fault = c .before .enum-told5 .given .1 in
-    c .refused-by5 .ensures ∙ ap (refusedBy dueMissing) fault ∙ sym (at5 (c .before .before .before .before) ∙ check-stop dueAt _ _ (lit< tt) _ refl (sym (c .before .before .before .lowest-fault4 .ensures) ∙ fault))
+    c .refused-by5 .ensures ∙ ap (refusedBy dueMissing) fault ∙ sym (at5 (c .before .before .before .before) ∙ check-stop dueAt _ _ (lit< tt) _ refl (sym (c .before .before .before .lowest-fault3 .ensures) ∙ fault))
 
 returns-8 : tie.Need-returns-8
 unfolding rulesOf
