@@ -12,14 +12,13 @@ use contract.Lifetimes.{Lfts, Shares}
 use contract.Monad.{factI}
 use contract.Running.{Running, GhostRules}
 use types.Kit.{‵, _⊛_, _$_, !, by, move, drop, use1, split, fsplit}
-use types.Part.{whole, sub, look-in}
-use types.Run.{look, init, stop, fld, from, load, of-opd, and-then, no-more, assigns, land, returns, alloc1, alloc0, params1, pass1, pass0, free0}
+use types.Run.{look, init, stop, from, and-then, no-more, assigns, land, returns, alloc1, alloc0, params1, pass1, pass0, free0}
 use denote.Ref.{RefT, now}
 use denote.Signature.{namedLft}
 use Rattle.octets.specs.Part.{PartOf}
 use Rattle.message.specs.Values.{valueAt}
 use Rattle.message.specs.declared.Reader.{Reader}
-use Rattle.message.proofs.Walk.{rules, Params, Case, Exits, ends, Walk, reaches, calls, local, gone}
+use Rattle.message.proofs.Walk.{rules, Params, Case, Exits, ends, Walk, reaches, calls, local, field-of, gone}
 use Rattle.message.proofs.Held.{Held, bytes, Own, Lending, Fits, held, lent-fits, reader-fits, lends}
 use Rattle.message.proofs.Reader.Laws as T′
 use Rattle.message.proofs.entries.value_at as value_at
@@ -52,8 +51,8 @@ module _ {M : Type 1} (𝓤 : URA M) (H : Heap 𝓤) (𝓜 : Model 𝓤 H) (𝓖
       let wt : Fits d = reader-fits 𝓤 H 𝓜 𝓖 (namedLft 1 0 tt κs) d _ is .0 in
       alloc1 ! (λ l₀. alloc1 ! (λ l₁. alloc1 ! (λ l₂. alloc1 ! (λ l₃. alloc0 ! $ params1 ! $ pass1 ! (init ! 4 refl wt) $ pass0 ! $
       -- [_3; …; _2; …; self; …; room for the answer; …; the tokens; the reader, twice]
-      assigns ! (of-opd ! (load ! (from ! (fld ! refl (stop !))) (look-in ! 4 (sub ! 0 refl (whole !))))) (from ! (stop !)) (init ! 2 refl (tt, wt .1 .0)) $
-      assigns ! (of-opd ! (load ! (from ! (fld ! refl (stop !))) (look-in ! 4 (sub ! 1 refl (whole !))))) (from ! (stop !)) (init ! 0 refl (tt, wt .1 .1 .0)) $
+      assigns ! (field-of ! 4 0 refl refl refl) (from ! (stop !)) (init ! 2 refl (tt, wt .1 .0)) $
+      assigns ! (field-of ! 4 1 refl refl refl) (from ! (stop !)) (init ! 0 refl (tt, wt .1 .1 .0)) $
       move ! (9 ∷ []) $ fsplit ! $ use1 (rules 𝓤 H 𝓜 𝓖) (‵ (Lending (κs .0) d (w64 ∷ []) (d .at, tt)) ⊛ ‵ (Own (κs .0) d)) (lends 𝓤 H 𝓜 𝓖 (κs .0) d (w64 ∷ []) (d .at, tt) (wt .1 .1 .0 .fits, tt)) $ split ! $
       move ! (1 ∷ 2 ∷ []) $ drop ! $ drop ! $ move ! (0 ∷ 9 ∷ []) $
       -- [what goes to `value_at`; the tokens; _3; …; _2; …; self; …; room for the answer; …; the reader]
