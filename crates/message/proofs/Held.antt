@@ -3,8 +3,8 @@
 --     starts       what the lent bytes own makes a reader at an entry
 --     lends        a reader hands the lent bytes, and numbers beside them, to a function, and stays
 --     moves        a reader comes to another entry
---     lent-fits, reader-fits       the machine values of the two have their types
--- The steps take `Given`. The rest assumes nothing.
+--     lent-fits, reader-fits       their machine values are of their types
+--     Next, Valued     what the functions under the reader say of their answers
 use mathlib.Core.Path.{_≡_, refl}
 use Prim.Native.Nat.{ℕ, _<_, _^_}
 use mathlib.Core.List.{List, [], _∷_}
@@ -25,24 +25,27 @@ use denote.RattleType.{RattleType, Denots, Valss, owns}
 use denote.Laws.{Is, Typed}
 use denote.Plain.{UInt, uint-vals, uint-tells, uint-makes, uint-copy}
 use denote.Builtin.{u8, u16, usize}
-use denote.Ref.{RefT, NamedLft}
+use denote.Ref.{RefT, NamedLft, now}
 use denote.Signature.{namedLft}
 use denote.Slice.{sliceVal, ShrSlice, slice-vals, shr-slice-tells, shr-slice-lawful, shr-slice-copy}
 use denote.Steps.{owned}
 use denote.Struct.Declared.{Declared}
 use denote.Struct.Laws as LL
 use denote.Struct.Rest.{all-own, ownAt, rest, own-open, own-shut, own-out, own-put}
+use Rattle.octets.specs.Part.{PartOf}
+use Rattle.message.specs.Values.{entryFrom, valueAt}
 use Rattle.message.specs.declared.Reader.{Reader}
 use Rattle.message.proofs.Walk.{rules, Param, beside}
-use Rattle.message.proofs.Reader as T
-use Rattle.message.proofs.Reader.Laws as T′
+use Rattle.message.proofs.Reader as struct
+use Rattle.message.proofs.Reader.Laws as laws
+pub use Rattle.message.proofs.Reader.Laws.{lowered}
 
 -- the type of the lent bytes, and that of a reader of them
 abbrev pub Lent : Lft → RattleType
 Lent κ = ShrSlice (named 0) κ u8
 
 abbrev pub Held : Lfts 1 → RattleType
-Held κs = T.the-row (namedLft 1 0 tt κs)
+Held κs = struct.the-row (namedLft 1 0 tt κs)
 
 -- the machine value of the lent bytes
 abbrev pub bytes : RefT (List ℕ) → Val
@@ -50,7 +53,7 @@ bytes s = sliceVal (s .ptr) (length (s .now))
 
 -- what a reader owns
 abbrev pub Own : Lft → Reader → Fml
-Own κ d = Held (κ, tt) .own d (T′.lowered d ∷ [])
+Own κ d = Held (κ, tt) .own d (lowered d ∷ [])
 
 abbrev pub reader : RefT (List ℕ) → ℕ → Reader
 reader s n = record { src = s; at = n }
@@ -69,12 +72,19 @@ Lending κ d ws a = owns (Lent κ ∷ uints ws) (d .src, a) (bytes (d .src) ∷ 
 
 -- a reader's machine value is a value of its type
 abbrev pub Fits : Reader → Type 0
-Fits d = Holds (hasTy (T′.mir (named 0)) (T′.lowered d)) × WT (T′.lowered d)
+Fits d = Holds (hasTy (laws.mir (named 0)) (lowered d)) × WT (lowered d)
 
 -- numbers, each below its width's bound
 abbrev pub Below : (ws : List Width) → Denots (uints ws) → Type 0
 Below [] a = Unit {0}
 Below (w ∷ ws) a = (a .0 < 2 ^ bits w) × Below ws (a .1)
+
+-- what `entry_of` says of the entry that it finds for a reader, and `value_at` of the part of the message
+abbrev pub Next : Reader → ℕ → ℕ → Type 0
+Next d c n = n ≡ entryFrom (now (d .src)) c (d .at)
+
+abbrev pub Valued : Reader → RefT (List ℕ) → Type 0
+Valued d r = (now r ≡ valueAt (now (d .src)) (d .at)) × PartOf (d .src) r
 
 -- ---- the parameters
 abbrev pub lent : (κ : Lft) → Param (Lent κ)
@@ -82,10 +92,10 @@ lent κ = record { vals = slice-vals; tells = shr-slice-tells (named 0) κ u8; s
 
 abbrev pub held : (κs : Lfts 1) → Param (Held κs)
 held κs = record {
-  vals = LL.vals (T.the-type (namedLft 1 0 tt κs)) (T′.the-laws (namedLft 1 0 tt κs));
-  tells = LL.tells (T.the-type (namedLft 1 0 tt κs)) (T′.the-laws (namedLft 1 0 tt κs));
+  vals = LL.vals (struct.the-type (namedLft 1 0 tt κs)) (laws.the-laws (namedLft 1 0 tt κs));
+  tells = LL.tells (struct.the-type (namedLft 1 0 tt κs)) (laws.the-laws (namedLft 1 0 tt κs));
   silent = λ k x f. refl;
-  twofold = LL.copy (T.the-type (namedLft 1 0 tt κs)) (T′.the-copy (namedLft 1 0 tt κs));
+  twofold = LL.copy (struct.the-type (namedLft 1 0 tt κs)) (laws.the-copy (namedLft 1 0 tt κs));
 }
 
 abbrev pub code : Param u16
@@ -101,8 +111,8 @@ module _ {M : Type 1} (𝓤 : URA M) (H : Heap 𝓤) (𝓜 : Model 𝓤 H) (𝓖
   pub lent-fits : (κ : Lft) (s : RefT (List ℕ)) (u : Val) → Is (Lent κ) s (u ∷ []) → Typed (Lent κ .mir) (u ∷ [])
   lent-fits κ s u = shr-slice-lawful 𝓤 H A W (named 0) κ u8 .typed s (u ∷ [])
 
-  pub reader-fits : (α : NamedLft) (d : Reader) (u : Val) → Is (T.the-row α) d (u ∷ []) → Typed (T.the-row α .mir) (u ∷ [])
-  reader-fits α d u = LL.lawful (T.the-type α) (T′.the-laws α) 𝓤 H A W .typed d (u ∷ [])
+  pub reader-fits : (α : NamedLft) (d : Reader) (u : Val) → Is (struct.the-row α) d (u ∷ []) → Typed (struct.the-row α .mir) (u ∷ [])
+  reader-fits α d u = LL.lawful (struct.the-type α) (laws.the-laws α) 𝓤 H A W .typed d (u ∷ [])
 
   -- they own nothing
   pub numbers : (ws : List Width) (a : Denots (uints ws)) → Below ws a → ent 𝓤 (emp 𝓤) (sem 𝓤 H A (owns (uints ws) a (vints ws a)))
@@ -111,10 +121,10 @@ module _ {M : Type 1} (𝓤 : URA M) (H : Heap 𝓤) (𝓜 : Model 𝓤 H) (𝓖
 
   module _ (κ : Lft) where
     abbrev D : Declared
-    D = T.the-type (namedLft 1 0 tt (κ, tt))
+    D = struct.the-type (namedLft 1 0 tt (κ, tt))
 
     abbrev L : LL.Laws D
-    L = T′.the-laws (namedLft 1 0 tt (κ, tt))
+    L = laws.the-laws (namedLft 1 0 tt (κ, tt))
 
     pub starts : (s : RefT (List ℕ)) (n : ℕ) → n < 2 ^ 64 → ent 𝓤 (sem 𝓤 H A (owns (Lent κ ∷ []) (s, tt) (bytes s ∷ [], tt))) (sem 𝓤 H A (Own κ (reader s n)))
     starts s n fits =
@@ -124,11 +134,11 @@ module _ {M : Type 1} (𝓤 : URA M) (H : Heap 𝓤) (𝓜 : Model 𝓤 H) (𝓖
     module _ (d : Reader) where
       pub lends : (ws : List Width) (a : Denots (uints ws)) → Below ws a → ent 𝓤 (sem 𝓤 H A (Own κ d)) (sep 𝓤 (sem 𝓤 H A (Lending κ d ws a)) (sem 𝓤 H A (Own κ d)))
       lends ws a fit =
-          qed W (‵ (Own κ d) ∷ []) ∵ use1 W (‵ (Own κ d) ⊛ ‵ (Own κ d)) (held (κ, tt) .twofold 𝓤 H A W .twice d (T′.lowered d ∷ [])) $ split ! $
-          use1 W (given (T′.lowered d ∷ [] ≡ T′.lowered d ∷ []) (‵ (all-own (D .parts) L (d .src, (d .at, tt))))) (own-open 𝓤 H A W D L (d .src, (d .at, tt)) (T′.lowered d)) $ learn ! (λ _.
+          qed W (‵ (Own κ d) ∷ []) ∵ use1 W (‵ (Own κ d) ⊛ ‵ (Own κ d)) (held (κ, tt) .twofold 𝓤 H A W .twice d (lowered d ∷ [])) $ split ! $
+          use1 W (given (lowered d ∷ [] ≡ lowered d ∷ []) (‵ (all-own (D .parts) L (d .src, (d .at, tt))))) (own-open 𝓤 H A W D L (d .src, (d .at, tt)) (lowered d)) $ learn ! (λ _.
           use1 W (‵ (ownAt (D .parts) L 0 (d .src)) ⊛ ‵ (rest (D .parts) L 0 (d .src, (d .at, tt)))) (own-out 𝓤 H A W (D .parts) L 0 (d .src, (d .at, tt))) $ split ! $ move ! (1 ∷ []) $ drop ! $
           use1 W (‵ (Lending κ d ws a)) (beside 𝓤 H A (Lent κ) (d .src) (bytes (d .src) ∷ []) (uints ws) a (vints ws a) (numbers ws a fit)) $ frame ! $ done !)
 
       pub moves : (n : ℕ) → n < 2 ^ 64 → ent 𝓤 (sem 𝓤 H A (Own κ d)) (sem 𝓤 H A (Own κ (reader (d .src) n)))
       moves n fits =
-          qed W (‵ (Own κ d) ∷ []) ∵ owned ! usize (Is usize) (uint-makes 𝓤 H A W w64) n _ (refl, fits) $ move ! (1 ∷ 0 ∷ []) $ by ! (own-put 𝓤 H A W D L 1 (d .src, (d .at, tt)) n (T′.lowered d))
+          qed W (‵ (Own κ d) ∷ []) ∵ owned ! usize (Is usize) (uint-makes 𝓤 H A W w64) n _ (refl, fits) $ move ! (1 ∷ 0 ∷ []) $ by ! (own-put 𝓤 H A W D L 1 (d .src, (d .at, tt)) n (lowered d))
