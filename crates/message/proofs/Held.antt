@@ -1,7 +1,7 @@
--- A reader of a message, as the walks have it: what it owns at a lifetime κ, which is what the lent bytes own, and how that is taken apart and made.
+-- A reader of a message, as the walks have it: what it owns at a lifetime κ, which is what the lent bytes own, and how that is lent, moved and made.
 --     lent, held, code     the three kinds of parameters: the lent bytes, a reader of them, and an element's code
 --     starts       what the lent bytes own makes a reader at an entry
---     lends        a reader hands the lent bytes, and numbers beside them, to a function, and stays
+--     Lending, lends       a reader hands the lent bytes, and numbers beside them, to a function, and stays
 --     moves        a reader comes to another entry
 --     lent-fits, reader-fits       their machine values are of their types
 --     Next, Valued     what the functions under the reader say of their answers
@@ -51,33 +51,33 @@ Held κs = struct.the-row (namedLft 1 0 tt κs)
 abbrev pub bytes : RefT (List ℕ) → Val
 bytes s = sliceVal (s .ptr) (length (s .now))
 
--- what a reader owns
+-- what a reader owns, and a reader of the bytes s at the entry n
 abbrev pub Own : Lft → Reader → Fml
 Own κ d = Held (κ, tt) .own d (lowered d ∷ [])
 
 abbrev pub reader : RefT (List ℕ) → ℕ → Reader
 reader s n = record { src = s; at = n }
 
-abbrev pub uints : List Width → List RattleType
+-- numbers of some widths: their types, their machine values, and that each is below the bound of its width
+abbrev uints : List Width → List RattleType
 uints [] = []
 uints (w ∷ ws) = UInt w ∷ uints ws
 
-abbrev pub vints : (ws : List Width) → Denots (uints ws) → Valss (uints ws)
+abbrev vints : (ws : List Width) → Denots (uints ws) → Valss (uints ws)
 vints [] a = tt
 vints (w ∷ ws) a = (vint w (a .0) ∷ [], vints ws (a .1))
+
+abbrev Below : (ws : List Width) → Denots (uints ws) → Type 0
+Below [] a = Unit {0}
+Below (w ∷ ws) a = (a .0 < 2 ^ bits w) × Below ws (a .1)
 
 -- what goes to a function that takes the lent bytes and numbers
 abbrev pub Lending : (κ : Lft) (d : Reader) (ws : List Width) → Denots (uints ws) → Fml
 Lending κ d ws a = owns (Lent κ ∷ uints ws) (d .src, a) (bytes (d .src) ∷ [], vints ws a)
 
--- a reader's machine value is a value of its type
+-- a reader's machine value is of its type
 abbrev pub Fits : Reader → Type 0
 Fits d = Holds (hasTy (laws.mir (named 0)) (lowered d)) × WT (lowered d)
-
--- numbers, each below its width's bound
-abbrev pub Below : (ws : List Width) → Denots (uints ws) → Type 0
-Below [] a = Unit {0}
-Below (w ∷ ws) a = (a .0 < 2 ^ bits w) × Below ws (a .1)
 
 -- what `entry_of` says of the entry that it finds for a reader, and `value_at` of the part of the message
 abbrev pub Next : Reader → ℕ → ℕ → Type 0
@@ -114,7 +114,7 @@ module _ {M : Type 1} (𝓤 : URA M) (H : Heap 𝓤) (𝓜 : Model 𝓤 H) (𝓖
   pub reader-fits : (α : NamedLft) (d : Reader) (u : Val) → Is (struct.the-row α) d (u ∷ []) → Typed (struct.the-row α .mir) (u ∷ [])
   reader-fits α d u = LL.lawful (struct.the-type α) (laws.the-laws α) 𝓤 H A W .typed d (u ∷ [])
 
-  -- they own nothing
+  -- numbers own nothing
   pub numbers : (ws : List Width) (a : Denots (uints ws)) → Below ws a → ent 𝓤 (emp 𝓤) (sem 𝓤 H A (owns (uints ws) a (vints ws a)))
   numbers [] a fit = id⊢ 𝓤 (emp 𝓤)
   numbers (w ∷ ws) a fit = via 𝓤 _ (uint-makes 𝓤 H A W w (a .0) _ (refl, fit .0)) (beside 𝓤 H A (UInt w) (a .0) (vint w (a .0) ∷ []) (uints ws) (a .1) (vints ws (a .1)) (numbers ws (a .1) (fit .1)))

@@ -11,7 +11,7 @@ use denote.Ref.{RefT, NamedLft, now}
 use Rattle.octets.specs.Part.{PartOf}
 use Rattle.message.specs.Values.{value as valueOf}
 use Rattle.message.specs.declared.Reader.{Reader}
-use Rattle.message.proofs.Walk.{URA, emp, id⊢, Model, Heap, Lfts, Shares, factI, Running, GhostRules, ‵, _$_, !, by, move, drop, use1, fsplit, look, init, stop, from, and-then, no-more, land, returns, alloc1, alloc0, params1, pass1, pass0, free0, rules, Params, Case, Exits, ends, Walk, reaches, calls, beside, local, gone}
+use Rattle.message.proofs.Walk.{URA, id⊢, Model, Heap, Lfts, Shares, Running, GhostRules, ‵, _$_, !, by, move, drop, use1, fsplit, look, init, stop, from, and-then, no-more, land, returns, alloc1, alloc0, params1, pass1, pass0, free0, rules, Params, Case, Exits, ends, shown, Walk, reaches, calls, beside, local, gone}
 use Rattle.message.proofs.Held.{Lent, Held, Next, Valued, bytes, lent, code as number, lent-fits, reader-fits, numbers}
 use Rattle.message.proofs.start as start
 use Rattle.message.proofs.start.Met as started
@@ -51,7 +51,7 @@ module _ {M : Type 1} (𝓤 : URA M) (H : Heap 𝓤) (𝓜 : Model 𝓤 H) (𝓖
   case κs qs m c = ((κs, qs, tt, (m, (c, tt)), (bytes m ∷ [], (vint w16 c ∷ [], tt))), tt)
 
   exits : (κs : Lfts 1) (qs : Shares 1) (m : RefT (List ℕ)) (c : ℕ) (u : Val) (r : RefT (List ℕ)) → Found m c r → Exits 𝓤 H 𝓜 𝓖 𝓡 element.ended (element.clauses 𝓤 H) (case κs qs m c) u r
-  exits κs qs m c u r e = ends 𝓤 H 𝓜 𝓖 𝓡 element.ended (element.clauses 𝓤 H) (case κs qs m c) u r (tt, (tt, tt)) (factI 𝓤 _ (emp 𝓤) e)
+  exits κs qs m c u r e = ends 𝓤 H 𝓜 𝓖 𝓡 element.ended (element.clauses 𝓤 H) (case κs qs m c) u r (tt, (tt, tt)) (shown ! e)
 
   walk : Walk 𝓤 H 𝓜 𝓖 𝓡 element.ended (element.clauses 𝓤 H) code.env code.function params
   walk κs qs _ (m, (c, _)) _ (is, (is-c, _)) =

@@ -11,7 +11,7 @@ use denote.Builtin.{u16}
 use denote.Signature.{namedLft}
 use denote.Steps.{only}
 use Rattle.message.specs.declared.Reader.{Reader}
-use Rattle.message.proofs.Walk.{URA, emp, id⊢, Model, Heap, Lfts, Shares, factI, Running, GhostRules, ‵, _⊛_, _$_, !, by, move, drop, use1, split, fsplit, rewrite, agg, look, init, stop, from, and-then, no-more, assigns, land, returns, alloc1, alloc0, params1, pass1, pass0, free0, rules, Params, Case, Exits, ends, Walk, reaches, calls, local, field-of, gone}
+use Rattle.message.proofs.Walk.{URA, id⊢, Model, Heap, Lfts, Shares, Running, GhostRules, ‵, _⊛_, _$_, !, by, move, drop, use1, split, fsplit, rewrite, agg, look, init, stop, from, and-then, no-more, assigns, land, returns, alloc1, alloc0, params1, pass1, pass0, free0, rules, Params, Case, Exits, ends, shown, Walk, reaches, calls, local, field-of, gone}
 use Rattle.message.proofs.Held.{Held, Next, bytes, Own, reader, Lending, Fits, held, code as number, reader-fits, lends, moves, lowered}
 use Rattle.message.proofs.entries.entry_of as entry_of
 use Rattle.message.proofs.entries.entry_of.Met as answered
@@ -31,7 +31,7 @@ module _ {M : Type 1} (𝓤 : URA M) (H : Heap 𝓤) (𝓜 : Model 𝓤 H) (𝓖
   call κs qs d c = ((κs, qs, tt, (d .src, (c, (d .at, tt))), (bytes (d .src) ∷ [], (vint w16 c ∷ [], (vint w64 (d .at) ∷ [], tt)))), tt)
 
   exits : (κs : Lfts 1) (qs : Shares 1) (d : Reader) (c : ℕ) (n : ℕ) → Next d c n → Exits 𝓤 H 𝓜 𝓖 𝓡 seek.ended (seek.clauses 𝓤 H) (case κs qs d c) (lowered (reader (d .src) n)) (reader (d .src) n)
-  exits κs qs d c n e = ends 𝓤 H 𝓜 𝓖 𝓡 seek.ended (seek.clauses 𝓤 H) (case κs qs d c) (lowered (reader (d .src) n)) (reader (d .src) n) (tt, (tt, tt)) (factI 𝓤 _ (emp 𝓤) (refl, e))
+  exits κs qs d c n e = ends 𝓤 H 𝓜 𝓖 𝓡 seek.ended (seek.clauses 𝓤 H) (case κs qs d c) (lowered (reader (d .src) n)) (reader (d .src) n) (tt, (tt, tt)) (shown ! (refl, e))
 
   walk : Walk 𝓤 H 𝓜 𝓖 𝓡 seek.ended (seek.clauses 𝓤 H) code.env code.function params
   walk κs qs _ (d, (c, _)) _ (is, (is-c, _)) =

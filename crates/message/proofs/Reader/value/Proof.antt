@@ -7,7 +7,7 @@ use mir.Val.{Val, vint}
 use denote.Ref.{RefT}
 use denote.Signature.{namedLft}
 use Rattle.message.specs.declared.Reader.{Reader}
-use Rattle.message.proofs.Walk.{URA, emp, id⊢, Model, Heap, Lfts, Shares, factI, Running, GhostRules, ‵, _⊛_, _$_, !, by, move, drop, use1, split, fsplit, look, init, stop, from, and-then, no-more, assigns, land, returns, alloc1, alloc0, params1, pass1, pass0, free0, rules, Params, Case, Exits, ends, Walk, reaches, calls, local, field-of, gone}
+use Rattle.message.proofs.Walk.{URA, id⊢, Model, Heap, Lfts, Shares, Running, GhostRules, ‵, _⊛_, _$_, !, by, move, drop, use1, split, fsplit, look, init, stop, from, and-then, no-more, assigns, land, returns, alloc1, alloc0, params1, pass1, pass0, free0, rules, Params, Case, Exits, ends, shown, Walk, reaches, calls, local, field-of, gone}
 use Rattle.message.proofs.Held.{Held, Valued, bytes, Own, Lending, Fits, held, lent-fits, reader-fits, lends, lowered}
 use Rattle.message.proofs.entries.value_at as value_at
 use Rattle.message.proofs.entries.value_at.Met as answered
@@ -27,7 +27,7 @@ module _ {M : Type 1} (𝓤 : URA M) (H : Heap 𝓤) (𝓜 : Model 𝓤 H) (𝓖
   call κs qs d = ((κs, qs, tt, (d .src, (d .at, tt)), (bytes (d .src) ∷ [], (vint w64 (d .at) ∷ [], tt))), tt)
 
   exits : (κs : Lfts 1) (qs : Shares 1) (d : Reader) (u : Val) (r : RefT (List ℕ)) → Valued d r → Exits 𝓤 H 𝓜 𝓖 𝓡 value.ended (value.clauses 𝓤 H) (case κs qs d) u r
-  exits κs qs d u r e = ends 𝓤 H 𝓜 𝓖 𝓡 value.ended (value.clauses 𝓤 H) (case κs qs d) u r (tt, tt) (factI 𝓤 _ (emp 𝓤) e)
+  exits κs qs d u r e = ends 𝓤 H 𝓜 𝓖 𝓡 value.ended (value.clauses 𝓤 H) (case κs qs d) u r (tt, tt) (shown ! e)
 
   walk : Walk 𝓤 H 𝓜 𝓖 𝓡 value.ended (value.clauses 𝓤 H) code.env code.function params
   walk κs qs _ (d, _) _ (is, _) =
