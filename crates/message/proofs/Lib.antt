@@ -1,3 +1,4 @@
 pub mod LayoutLaws
 pub mod ReadingLaws
+pub mod Walk
 pub mod Held
