@@ -14,7 +14,7 @@ use crate::layout::U64;
 use crate::layout::UTI_AT;
 use octets::part_of;
 use octets::read_at;
-use octets::same;
+use octets::same_long;
 use terms::SIZE;
 use terms::TIME_SIZE;
 
@@ -75,7 +75,7 @@ fn has_bytes(l: &[u8], k: usize, uti: &[u8]) -> bool
     requires { ⌜ rowStart (k + 1) ≤ length (now l) ⌝ }
     ensures { λ r. ⌜ r ≡ hasBytes (now (uti .entry)) (rowAt (now (l .entry)) k) ⌝ }
 {
-    same(part_of(row_at(l, k), UTI_AT, uti.len()), uti)
+    same_long(part_of(row_at(l, k), UTI_AT, uti.len()), uti)
 }
 
 // The place of the first of so many rows that is the swap's; their number where none is. The length is compared first: rows of

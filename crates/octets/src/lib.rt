@@ -51,6 +51,17 @@ fn same_front(a: &[u8], b: &[u8], n: usize) -> bool
     true
 }
 
+// Whether a and b hold the same bytes: for codes and other short values.
+pub fn same(a: &[u8], b: &[u8]) -> bool
+    ensures { λ r. ⌜ r ≡ sameBytes (now (a .entry)) (now (b .entry)) ⌝ }
+{
+    let n = a.len();
+    if n != b.len() {
+        return false;
+    }
+    same_front(a, b, n)
+}
+
 // Whether a and b, which are as long, hold the same bytes, compared from the last ones on, eight at a time.
 fn same_words(a: &[u8], b: &[u8]) -> bool
     requires { ⌜ length (now a) ≡ length (now b) ⌝ }
@@ -67,8 +78,8 @@ fn same_words(a: &[u8], b: &[u8]) -> bool
     same_front(a, b, i)
 }
 
-// Whether a and b hold the same bytes. They are compared from the end: UTIs of one issuer share their beginning.
-pub fn same(a: &[u8], b: &[u8]) -> bool
+// The same for longer values: the last eight bytes and the first eight are looked at before the others, since UTIs differ at one end.
+pub fn same_long(a: &[u8], b: &[u8]) -> bool
     ensures { λ r. ⌜ r ≡ sameBytes (now (a .entry)) (now (b .entry)) ⌝ }
 {
     let n = a.len();
@@ -77,6 +88,13 @@ pub fn same(a: &[u8], b: &[u8]) -> bool
     }
     if n < WORD {
         return same_front(a, b, n);
+    }
+    let at = n - WORD;
+    if read_le(&a[at..n]) != read_le(&b[at..n]) {
+        return false;
+    }
+    if read_le(&a[..WORD]) != read_le(&b[..WORD]) {
+        return false;
     }
     same_words(a, b)
 }

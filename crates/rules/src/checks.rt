@@ -10,6 +10,7 @@ use actions::LAST_CODE;
 use elements::EFFECTIVE_DATE;
 use elements::EXECUTION_TIME;
 use elements::EXPIRATION_DATE;
+use elements::NON_STANDARDIZED_TERM;
 use elements::PACKAGE_PRICE;
 use elements::REPORTING_TIME;
 use elements::SETTLEMENT_DATE;
@@ -95,6 +96,24 @@ pub fn lowest_not_taken(m: &[u8], action: Action) -> Checked
         return Checked::Value(action);
     }
     lowest_fault(m, action, Check::Taken)
+}
+
+// The lowest element code that is due under its condition and missing, or the action. Without a package only the non-standardized
+// term can be due.
+pub fn lowest_due(m: &[u8], action: Action) -> Checked
+    requires { ⌜ Laid (now m) ⌝ }
+    ensures { λ r. ⌜ r ≡ answerOf action (lowest (atFault Check.Due action (now (m .entry)))) ⌝ }
+{
+    if elements::is_package(m) {
+        return lowest_fault(m, action, Check::Due);
+    }
+    if !elements::is_due(m, NON_STANDARDIZED_TERM) {
+        return Checked::Value(action);
+    }
+    if 0 < element(m, NON_STANDARDIZED_TERM).len() {
+        return Checked::Value(action);
+    }
+    Checked::Fault(NON_STANDARDIZED_TERM as u8)
 }
 
 // Whether an unsigned number has more digits than a price with notation 3 may have.

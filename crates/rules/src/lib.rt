@@ -12,6 +12,7 @@ use actions::Checked;
 use checks::Check;
 use checks::is_out_of_order;
 use checks::is_price_too_long;
+use checks::lowest_due;
 use checks::lowest_fault;
 use checks::lowest_not_taken;
 use elements::EVENT_TYPE;
@@ -66,7 +67,7 @@ pub fn judge(m: &[u8], longest: usize) -> Judged
     if !actions::is_pair(action, element(m, EVENT_TYPE)) {
         return Judged::Refused(NOT_PAIR, 0);
     }
-    let due = lowest_fault(m, action, Check::Due);
+    let due = lowest_due(m, action);
     let Checked::Value(action) = due else {
         return refused_by(DUE_MISSING, due);
     };

@@ -13,9 +13,9 @@ returns c = sym (same-false _ _ (λ e. omega (arith, ap length e, c .if1 .taken)
 
 same-front-requires : tie.Need-same-front-requires
 same-front-requires c κs =
-    let a = c .before .before .before .before .args in
+    let a = c .before .before .before .args in
     let l : length (now (a .a)) ≡ length (now (a .b)) = search needs in
     (l, search needs, ends-same (now (a .a)) (now (a .b)) l)
 
 pub same-spec : {M : Type 1} → statement M
-same-spec = tie.close (tie.spec returns same-front-requires (λ c. search needs) (λ c κs. search needs) (λ c. search needs))
+same-spec = tie.close (tie.spec returns same-front-requires (λ c. search needs))

@@ -118,7 +118,7 @@ at5 c = at4 (c .before .before .before) ∙ test-on pairAt _ _ (lit< tt) (not (p
 
 at6 : (c : tie.After-known-told5) → j0 (r6 c) ≡ left priceAt (a6 c) (m0 (r6 c))
 unfolding rulesOf
-at6 c = at5 (c .before .before .before .before) ∙ check-on dueAt _ _ (lit< tt) (a6 c) (sym (c .before .before .before .lowest-fault3 .ensures) ∙ c .before .due .given .1)
+at6 c = at5 (c .before .before .before .before) ∙ check-on dueAt _ _ (lit< tt) (a6 c) (sym (c .before .before .before .lowest-due .ensures) ∙ c .before .due .given .1)
 
 at7 : (c : tie.Else3) → j0 (r7 c) ≡ left orderAt (a6 (c .before .before)) (m0 (r7 c))
 unfolding rulesOf
@@ -162,7 +162,7 @@ returns-7 : tie.Need-returns-7
 unfolding rulesOf
 returns-7 c =
     let fault = c .before .enum-told5 .given .1 in
-    c .refused-by5 .ensures ∙ ap (refusedBy dueMissing) fault ∙ sym (at5 (c .before .before .before .before) ∙ check-stop dueAt _ _ (lit< tt) _ refl (sym (c .before .before .before .lowest-fault3 .ensures) ∙ fault))
+    c .refused-by5 .ensures ∙ ap (refusedBy dueMissing) fault ∙ sym (at5 (c .before .before .before .before) ∙ check-stop dueAt _ _ (lit< tt) _ refl (sym (c .before .before .before .lowest-due .ensures) ∙ fault))
 
 returns-8 : tie.Need-returns-8
 unfolding rulesOf
