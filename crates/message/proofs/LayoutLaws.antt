@@ -84,7 +84,7 @@ module _ (longest most : ℕ) (known : List Bool) (m : List ℕ) (right : layout
   offset-rises k h = ltb-true (offsetAt m k) (offsetAt m (k + 1)) (both-second (ltb (codeAt m k) (codeAt m (k + 1))) _ (rises k h))
 
   -- a value ends after it starts, and within the message
-  value-runs : (k : ℕ) → k < count m → (offsetAt m k < endOf m k) × (endOf m k ≤ length m)
+  pub value-runs : (k : ℕ) → k < count m → (offsetAt m k < endOf m k) × (endOf m k ≤ length m)
   unfolding endOf
   value-runs k h = rw entries-all (go (ltb (k + 1) (count m)) refl)
     where

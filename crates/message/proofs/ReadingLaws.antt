@@ -10,10 +10,10 @@ use lib.ListN.{length, getD}
 use borrow.Author.Tests.{ltb-true, ltb-false, lt-ltb, eqb-true, eqb-false}
 use Rattle.octets.specs.Search.{firstFrom}
 use Rattle.octets.proofs.SearchLaws.{first-passes}
-use Rattle.message.specs.Layout.{count, codeAt}
-use Rattle.message.specs.Values.{entries, entryFrom, valueAt, value, isThere}
+use Rattle.message.specs.Layout.{count, codeAt, offsetAt}
+use Rattle.message.specs.Values.{entries, entryFrom, endOf, valueAt, value, isThere}
 use Rattle.message.specs.Reading.{Laid, Reached, nextPlace}
-use Rattle.message.proofs.LayoutLaws.{entries-all, code-known, code-apart, value-filled, missing, value-found}
+use Rattle.message.proofs.LayoutLaws.{entries-all, code-known, code-apart, value-runs, value-filled, missing, value-found}
 
 entries-most : (m : List ℕ) → entries m ≤ count m
 unfolding entries
@@ -48,6 +48,9 @@ not-there m code e = go (value code m) e
 module _ (m : List ℕ) (laid : Laid m) where
   pub laid-entries : entries m ≡ count m
   laid-entries = entries-all (laid .longest) (laid .most) (laid .known) m (laid .right)
+
+  pub laid-runs : (k : ℕ) → k < entries m → (offsetAt m k < endOf m k) × (endOf m k ≤ length m)
+  laid-runs k h = value-runs (laid .longest) (laid .most) (laid .known) m (laid .right) k (omega (arith, laid-entries))
 
   -- codes are above 0
   positive : (k : ℕ) → k < count m → 0 < codeAt m k
@@ -105,6 +108,9 @@ module _ (m : List ℕ) (laid : Laid m) where
         go true p true q = (ltb-true _ _ p, eqb-true _ _ q)
         go true p false q = absurd (false≢true (sym (not-here (λ h. eqb-false _ _ q)) ∙ e))
         go false p u q = absurd (false≢true (sym (not-here (λ h. absurd (omega (arith, ltb-false at (count m) p)))) ∙ e))
+
+    pub there-inside : isThere code m ≡ true → at < entries m
+    there-inside e = omega (arith, here-there e .0, laid-entries)
 
     pub found-there : isThere code m ≡ true → value code m ≡ valueAt m at
     found-there e = found-here (here-there e .0) (here-there e .1)

@@ -72,6 +72,19 @@ pub fn value_at<'a>(m: &'a [u8], k: usize) -> &'a [u8]
     part_of(m, offset, end - offset)
 }
 
+// The value of entry k, one of n, where the layout is right: that part of the message itself.
+pub fn value_here<'a>(m: &'a [u8], n: usize, k: usize) -> &'a [u8]
+    requires { ⌜ n ≡ entries (now m) ⌝ }
+    requires { ⌜ (n < 65536) × (entrySize * n ≤ length (now m) - countSize) ⌝ }
+    requires { ⌜ Laid (now m) ⌝ }
+    requires { ⌜ k < n ⌝ }
+    ensures { λ r. ⌜ now r ≡ valueAt (now (m .entry)) k ⌝ }
+{
+    let offset = u16_inside(m, COUNT + ENTRY * k + CODE);
+    let end = end_of(m, n, k);
+    &m[offset..end]
+}
+
 // Whether an element is there, for a reader that has come to its code among the n entries.
 pub fn is_here(m: &[u8], n: usize, code: u16, at: usize) -> bool
     requires { ⌜ n ≡ entries (now m) ⌝ }

@@ -5,12 +5,13 @@ mod layout;
 pub use entries::entries_of;
 pub use entries::is_here;
 pub use entries::next_place;
-pub use entries::value_at;
+pub use entries::value_here;
 pub use layout::layout_right;
 ghost use mathlib.Core.Path.{_≡_};
 ghost use Rattle.octets.specs.Part.{PartOf};
 ghost use Rattle.message.specs.Values.{entryFrom, valueAt, value};
 use entries::entry_of;
+use entries::value_at;
 
 // The reader of a message: the lent bytes, and how far it has come, an entry of the header. Each function over it takes it apart and
 // calls one on the bytes and a number.

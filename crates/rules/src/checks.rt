@@ -1,6 +1,9 @@
 // The rules one by one.
 ghost use mathlib.Core.Path.{_≡_};
-ghost use Rattle.message.specs.Values.{isThere};
+ghost use Prim.Native.Nat.{_-_, _*_, _<_, _≤_};
+ghost use lib.ListN.{length};
+ghost use Rattle.message.specs.Layout.{countSize, entrySize};
+ghost use Rattle.message.specs.Values.{entries, isThere};
 ghost use Rattle.message.specs.Reading.{Laid, Reached};
 ghost use Rattle.rules.specs.Findings.{lowest};
 ghost use Rattle.rules.specs.Rules.{answerOf, atFault, longPrice, priceTooLong, elementBefore, outOfOrder};
@@ -18,7 +21,7 @@ use message::element;
 use message::entries_of;
 use message::is_here;
 use message::next_place;
-use message::value_at;
+use message::value_here;
 
 // The checks that name the lowest element code at fault: 7, 8, 9 and 11.
 pub enum Check {
@@ -33,8 +36,18 @@ const NOTATION_THREE_DIGITS: usize = 11;
 
 const NOTATION_THREE_DECIMALS: usize = 10;
 
-// Whether an element is at fault: `here` says whether it is there, at the place that the reader has come to.
-fn is_at_fault(m: &[u8], action: Action, check: Check, code: u16, at: usize, here: bool) -> bool
+// Whether an element is at fault: `here` says whether it is there, at the place that the reader has come to among n entries.
+fn is_at_fault(
+    m: &[u8],
+    n: usize,
+    action: Action,
+    check: Check,
+    code: u16,
+    at: usize,
+    here: bool,
+) -> bool
+    requires { ⌜ n ≡ entries (now m) ⌝ }
+    requires { ⌜ (n < 65536) × (entrySize * n ≤ length (now m) - countSize) ⌝ }
     requires { ⌜ Laid (now m) ⌝ }
     requires { ⌜ Reached (now m) code at ⌝ }
     requires { ⌜ here ≡ isThere code (now m) ⌝ }
@@ -57,7 +70,7 @@ fn is_at_fault(m: &[u8], action: Action, check: Check, code: u16, at: usize, her
             if !here {
                 return false;
             }
-            !elements::has_form(code, value_at(m, at))
+            !elements::has_form(code, value_here(m, n, at))
         }
         Check::Due => {
             if here {
@@ -78,7 +91,7 @@ pub fn lowest_fault(m: &[u8], action: Action, check: Check) -> Checked
     let mut at: usize = 0;
     while code as usize <= LAST_CODE {
         let here = is_here(m, n, code, at);
-        if is_at_fault(m, action, check, code, at, here) {
+        if is_at_fault(m, n, action, check, code, at, here) {
             return Checked::Fault(code as u8);
         }
         at = next_place(at, here);

@@ -30,6 +30,12 @@ abbrev μ-loop : tie.MeasureT-loop
 loop-holds : tie.Need-loop-holds Inv-loop μ-loop
 loop-holds c = (search needs, search needs, reached-start (now (c .before .before .args .m)) (search needs), search needs, refl)
 
+is-at-fault-requires : tie.Need-is-at-fault-requires Inv-loop μ-loop
+is-at-fault-requires c κs =
+    let n = c .before .before .before .entries-of .ensures in
+    let l = c .before .before .loop in
+    (n .0, ((n .1, n .2), (l .inv .1, (l .inv .2, c .is-here .ensures))))
+
 returns : tie.Need-returns Inv-loop μ-loop
 unfolding lowest
 returns c =
@@ -75,7 +81,7 @@ lowest-fault-spec =
     loop-holds
     (λ c. search needs)
     (λ c κs. search needs)
-    (λ c κs. search needs)
+    is-at-fault-requires
     (λ c. search needs)
     returns
     (λ c κs. search needs)
