@@ -4,12 +4,10 @@ use mathlib.Core.Path.{_≡_, refl, sym, ap, _∙_}
 use mathlib.Core.List.{List, [], _∷_, map}
 use native.Mathlib.Nat.{add-zero, zero-add, not-suc-le-zero, le-of-suc-le-suc}
 use native.Mathlib.Omega.{arith}
-use lib.ListN.{length, getD, List·getD-eq-default}
+use lib.ListN.{length, getD}
 use Rattle.actions.specs.declared.Action.{Action}
 use Rattle.actions.specs.declared.Action.the-variants.{Newt, Modi, Corr, Term, Eror, Revi, Prto}
 use Rattle.actions.specs.Actions.{allActions, rowOf}
-use Rattle.actions.specs.Elements.{lastCode, needed, needs}
-use Rattle.actions.specs.declared.elements.Needed.the-variants.{Optional}
 use Rattle.actions.specs.Statuses.{unknown, live, closed, errored, ported, noStep, nextStatus}
 use mathlib.Core.Bool.{false}
 use lib.Dec.{eqb, lit<}
@@ -58,9 +56,6 @@ pub action-table-at : {A : Type 0} (rule : Action → ℕ → A) (n : ℕ) (a : 
 action-table-at rule n a c d h = table-at (λ r. rule (actionAt r)) (length allActions) n (rowOf a) c d (in-row a .0) h ∙ ap (λ b. rule b c) (in-row a .1)
 
 -- ---- beyond the last column
-
-pub needs-none : (a : Action) (code : ℕ) → lastCode < code → needs a code ≡ false
-needs-none a code h = rw (List·getD-eq-default needed Optional {n = code} h)
 
 pub step-none : (a : Action) (s : ℕ) → ported < s → nextStatus a s ≡ noStep
 step-none a s h = by a

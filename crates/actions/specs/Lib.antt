@@ -1,4 +1,3 @@
 pub mod Actions
-pub mod Elements
 pub mod Matrix
 pub mod Statuses

@@ -1,12 +1,7 @@
-// The seven actions: document 01, 'Elements', how they are read and which elements and events go with each, and 'Statuses', the steps of a swap's status.
-mod elements;
+// The seven actions: document 01, 'Elements', how they are read and which events go with each, and 'Statuses', the steps of a swap's status.
 mod matrix;
 mod statuses;
 
-pub use elements::LAST_CODE;
-pub use elements::has_layout;
-pub use elements::is_needed;
-pub use elements::is_taken;
 pub use matrix::is_pair;
 pub use statuses::LIVE;
 pub use statuses::NO_STEP;

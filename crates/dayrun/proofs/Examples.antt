@@ -10,7 +10,7 @@ use Rattle.octets.specs.Text.{text}
 use Rattle.message.specs.Layout.{u16At, entryRight, layoutRight}
 use Rattle.message.specs.Values.{entries, entryFrom, endOf, valueAt, value}
 use Rattle.actions.specs.Actions.{actionOf}
-use Rattle.actions.specs.Elements.{known, hasLayout}
+use Rattle.elements.specs.Messages.{known, howMany, mostEntries, hasLayout}
 use Rattle.notional.specs.Masking.{isCap}
 use Rattle.notional.specs.Rounding.{bands, stepIn, step, nearest, rounded}
 use Rattle.rules.specs.Findings.{lowest, firstBroken}
@@ -25,5 +25,5 @@ use Rattle.dayrun.specs.Blocks.{Examples}
 
 pub examples : Examples
 unfolding
-    field bytesOf fromLe toLe digits splice sameBytes place oneOf beside firstFrom allFrom text u16At entryRight layoutRight entries entryFrom endOf valueAt value actionOf known hasLayout isCap bands stepIn step nearest rounded lowest firstBroken rulesOf rulesFor rowsInUse firstRow nextIdentifier capsIn sizeOfRows capacityIn capFor areCaps capacityFor headerRight headerFields capFields newHeader openingRules openingVerdict opened submissionRules verdictOn submitted frameOf digitsFrom digitCount decimal line heading reportLine lastLine day.linesOf day.step day.reportFrom day.dayReport
+    field bytesOf fromLe toLe digits splice sameBytes place oneOf beside firstFrom allFrom text u16At entryRight layoutRight entries entryFrom endOf valueAt value actionOf known howMany mostEntries hasLayout isCap bands stepIn step nearest rounded lowest firstBroken rulesOf rulesFor rowsInUse firstRow nextIdentifier capsIn sizeOfRows capacityIn capFor areCaps capacityFor headerRight headerFields capFields newHeader openingRules openingVerdict opened submissionRules verdictOn submitted frameOf digitsFrom digitCount decimal line heading reportLine lastLine day.linesOf day.step day.reportFrom day.dayReport
 examples = (refl, refl, refl, refl, refl)

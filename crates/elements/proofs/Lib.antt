@@ -1,1 +1,1 @@
-pub mod ConditionLaws
+pub mod TakenLaws

@@ -1,8 +1,7 @@
 -- Document 01, 'Elements': the form of each element (verdict 9).
 use Prim.Native.Nat.{ℕ}
 use mathlib.Core.Bool.{Bool, true, false}
-use mathlib.Core.List.{List, [], _∷_}
-use lib.ListN.{getD}
+use mathlib.Core.List.{List}
 use Rattle.values.specs.Run.{isUti, isEvent, isPackageIdentifier, isCurrency, isLocation}
 use Rattle.values.specs.Code.{isTruth, isCleared, isAllocation, isNotation, isAssetClass}
 use Rattle.values.specs.Lei.{isLei}
@@ -11,42 +10,9 @@ use Rattle.dates.specs.Dates.{isDate, isTime}
 use Rattle.actions.specs.Actions.{actionOf}
 use Rattle.actions.specs.declared.Checked.{Checked}
 use Rattle.actions.specs.declared.Checked.the-variants.{Fault, Value}
-use Rattle.elements.specs.declared.forms.Form.{Form}
-use Rattle.elements.specs.declared.forms.Form.the-variants.{Unknown, Uti, Action, Event, Time, Date, Cleared, Truth, Allocation, PackageIdentifier, Price, Notation, Currency, Notional, Location, Lei, AssetClass}
-
--- the column 'Form'
-abbrev pub forms : List Form
-forms =
-    Unknown  -- 0 is no code
-    ∷ Uti  -- 1 UTI
-    ∷ Action  -- 2 action type
-    ∷ Event  -- 3 event type
-    ∷ Time  -- 4 event timestamp
-    ∷ Time  -- 5 reporting timestamp
-    ∷ Time  -- 6 execution timestamp
-    ∷ Date  -- 7 effective date
-    ∷ Date  -- 8 expiration date
-    ∷ Date  -- 9 final contractual settlement date
-    ∷ Cleared  -- 10 cleared
-    ∷ Truth  -- 11 non-standardized term
-    ∷ Truth  -- 12 block election
-    ∷ Truth  -- 13 large notional election
-    ∷ Allocation  -- 14 allocation
-    ∷ Truth  -- 15 package indicator
-    ∷ PackageIdentifier  -- 16 package identifier
-    ∷ Price  -- 17 package price
-    ∷ Notation  -- 18 price notation
-    ∷ Currency  -- 19 price currency
-    ∷ Notional  -- 20 notional amount
-    ∷ Currency  -- 21 notional currency
-    ∷ Location  -- 22 settlement location
-    ∷ Lei  -- 23 counterparty 1
-    ∷ Lei  -- 24 counterparty 2
-    ∷ AssetClass  -- 25 asset class
-    ∷ []
-
-unfoldable pub formOf : ℕ → Form
-formOf code = getD forms code Unknown
+use Rattle.elements.specs.declared.table.Form.{Form}
+use Rattle.elements.specs.declared.table.Form.the-variants.{Unknown, Uti, Action, Event, Time, Date, Cleared, Truth, Allocation, PackageIdentifier, Price, Notation, Currency, Notional, Location, Lei, AssetClass}
+use Rattle.elements.specs.Table.{elementOf}
 
 -- one of the seven
 abbrev pub isRead : Checked → Bool
@@ -75,4 +41,4 @@ fits AssetClass v = isAssetClass v
 
 -- a value has the form of the element with a code
 unfoldable pub hasForm : ℕ → List ℕ → Bool
-hasForm code v = fits (formOf code) v
+hasForm code v = fits (elementOf code .form) v

@@ -25,8 +25,6 @@ pub const LARGE_NOTIONAL_ELECTION: u16 = 13;
 
 pub const PACKAGE_INDICATOR: u16 = 15;
 
-pub const PACKAGE_IDENTIFIER: u16 = 16;
-
 pub const PACKAGE_PRICE: u16 = 17;
 
 pub const PRICE_NOTATION: u16 = 18;

@@ -1,25 +1,24 @@
 // Elements that are needed under a condition, and what is left out where it is not met.
 ghost use mathlib.Core.Path.{_≡_};
-ghost use Rattle.elements.specs.Conditions.{isPackage, notationIs, conditionOf, met, isConditional, Conditions-agree, isDue, kept};
+ghost use Rattle.elements.specs.Conditions.{isPackage, notationIs, factsOf, met, kept};
+ghost use Rattle.elements.specs.Table.{elementOf};
 use crate::codes::CLEARED;
-use crate::codes::NON_STANDARDIZED_TERM;
-use crate::codes::PACKAGE_IDENTIFIER;
 use crate::codes::PACKAGE_INDICATOR;
-use crate::codes::PACKAGE_PRICE;
-use crate::codes::PRICE_CURRENCY;
 use crate::codes::PRICE_NOTATION;
+use crate::table::Condition;
+use crate::table::element_of;
 use message::element;
 use octets::same;
 
-pub enum Condition {
-    Unconditional,
-    ClearedIsN,
-    Package,
-    PackageInCurrency,
+// What the conditions ask: Cleared is N; 15 is true; 15 is true and 18 is 1.
+pub struct Facts {
+    pub uncleared: bool,
+    pub packaged: bool,
+    pub currency: bool,
 }
 
 // Whether the package indicator is true.
-pub fn is_package(m: &[u8]) -> bool
+fn is_package(m: &[u8]) -> bool
     ensures { λ r. ⌜ r ≡ isPackage (now (m .entry)) ⌝ }
 {
     values::is_true(element(m, PACKAGE_INDICATOR))
@@ -32,72 +31,54 @@ pub fn notation_is(m: &[u8], code: &[u8]) -> bool
     same(element(m, PRICE_NOTATION), code)
 }
 
-// The condition of an element in the column 'Needed'.
-fn condition_of(code: u16) -> Condition
-    ensures { λ r. ⌜ (r ≡ conditionOf code) × Conditions-agree ⌝ }
+// What the conditions ask of a message.
+pub fn facts_of(m: &[u8]) -> Facts
+    ensures { λ r. ⌜ r ≡ factsOf (now (m .entry)) ⌝ }
 {
-    if code == NON_STANDARDIZED_TERM {
-        return Condition::ClearedIsN;
+    let uncleared = same(element(m, CLEARED), b"N");
+    if !is_package(m) {
+        return Facts {
+            uncleared,
+            packaged: false,
+            currency: false,
+        };
     }
-    if code == PACKAGE_IDENTIFIER {
-        return Condition::Package;
+    let currency = notation_is(m, b"1");
+    Facts {
+        uncleared,
+        packaged: true,
+        currency,
     }
-    if code == PACKAGE_PRICE {
-        return Condition::Package;
-    }
-    if code == PRICE_NOTATION {
-        return Condition::Package;
-    }
-    if code == PRICE_CURRENCY {
-        return Condition::PackageInCurrency;
-    }
-    Condition::Unconditional
 }
 
 // Whether a condition is met.
-fn is_met(condition: Condition, m: &[u8]) -> bool
-    ensures { λ r. ⌜ r ≡ met condition (now (m .entry)) ⌝ }
+fn is_met(condition: Condition, facts: Facts) -> bool
+    ensures { λ r. ⌜ r ≡ met condition facts ⌝ }
 {
     match condition {
-        Condition::Unconditional => true,
-        Condition::ClearedIsN => same(element(m, CLEARED), b"N"),
-        Condition::Package => is_package(m),
-        Condition::PackageInCurrency => {
-            if is_package(m) {
-                return notation_is(m, b"1");
-            }
-            false
-        }
+        Condition::Never => false,
+        Condition::Always => true,
+        Condition::ClearedIsN => facts.uncleared,
+        Condition::Package => facts.packaged,
+        Condition::InCurrency => facts.currency,
     }
 }
 
-fn is_conditional(condition: Condition) -> bool
-    ensures { λ r. ⌜ r ≡ isConditional condition ⌝ }
+// Whether the element is due under its condition, in a message with these facts.
+pub fn is_due(facts: Facts, code: u16) -> bool
+    ensures { λ r. ⌜ r ≡ met (elementOf code .due) facts ⌝ }
 {
-    match condition {
-        Condition::Unconditional => false,
-        Condition::ClearedIsN => true,
-        Condition::Package => true,
-        Condition::PackageInCurrency => true,
-    }
-}
-
-// Whether the element has a condition and it is met.
-pub fn is_due(m: &[u8], code: u16) -> bool
-    ensures { λ r. ⌜ r ≡ isDue code (now (m .entry)) ⌝ }
-{
-    let condition = condition_of(code);
-    if is_conditional(condition) {
-        return is_met(condition, m);
-    }
-    false
+    let due = element_of(code).due;
+    is_met(due, facts)
 }
 
 // The value of an element; nothing where its condition is not met.
-pub fn kept<'a>(m: &'a [u8], code: u16) -> &'a [u8]
+pub fn kept<'a>(m: &'a [u8], facts: Facts, code: u16) -> &'a [u8]
+    requires { ⌜ facts ≡ factsOf (now m) ⌝ }
     ensures { λ r. ⌜ now r ≡ kept code (now (m .entry)) ⌝ }
 {
-    if is_met(condition_of(code), m) {
+    let shown = element_of(code).shown;
+    if is_met(shown, facts) {
         return element(m, code);
     }
     &m[..0]

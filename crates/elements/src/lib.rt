@@ -1,7 +1,10 @@
-// The elements of a message: document 01, 'Elements', their codes, the form of each, and those that are needed under a condition.
+// The elements of a message: document 01, 'Elements', the table with a row for each code, and what is read off it: the messages that take and need an
+// element, its form, and the conditions.
 mod codes;
 mod conditions;
 mod forms;
+mod messages;
+mod table;
 
 pub use codes::ASSET_CLASS;
 pub use codes::BLOCK_ELECTION;
@@ -23,8 +26,14 @@ pub use codes::REPORTING_TIME;
 pub use codes::SETTLEMENT_DATE;
 pub use codes::SETTLEMENT_LOCATION;
 pub use codes::UTI;
+pub use conditions::Facts;
+pub use conditions::facts_of;
 pub use conditions::is_due;
-pub use conditions::is_package;
 pub use conditions::kept;
 pub use conditions::notation_is;
 pub use forms::has_form;
+pub use messages::has_layout;
+pub use messages::is_needed;
+pub use messages::is_taken;
+pub use messages::taken_up_to;
+pub use table::LAST_CODE;

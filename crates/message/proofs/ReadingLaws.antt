@@ -12,7 +12,7 @@ use Rattle.octets.specs.Search.{firstFrom}
 use Rattle.octets.proofs.SearchLaws.{first-passes}
 use Rattle.message.specs.Layout.{count, codeAt, offsetAt}
 use Rattle.message.specs.Values.{entries, entryFrom, endOf, valueAt, value, isThere}
-use Rattle.message.specs.Reading.{Laid, Reached, nextPlace}
+use Rattle.message.specs.Reading.{Laid, Reached, nextPlace, NoneAbove}
 use Rattle.message.proofs.LayoutLaws.{entries-all, code-known, code-apart, value-runs, value-filled, missing, value-found}
 
 entries-most : (m : List ℕ) → entries m ≤ count m
@@ -63,6 +63,17 @@ module _ (m : List ℕ) (laid : Laid m) where
   -- and rise
   apart : (i j : ℕ) → i < j → j < count m → codeAt m i < codeAt m j
   apart i j h l = code-apart (laid .longest) (laid .most) (laid .known) m (laid .right) (j - (i + 1)) i j (omega arith) l
+
+  -- no element above the last entry's code is there
+  pub none-above : (last : ℕ) → ((k : ℕ) → k + 1 ≡ count m → codeAt m k ≤ last) → NoneAbove m last
+  unfolding isThere
+  none-above last e code h = rw (absent m code (λ k l g. go k l g (eqb (k + 1) (count m)) refl))
+    where
+      go : (k : ℕ) → k < count m → codeAt m k ≡ code → (t : Bool) → eqb (k + 1) (count m) ≡ t → ⊥
+      go k l g true q = omega (arith, e k (eqb-true (k + 1) (count m) q))
+      go k l g false q =
+          let end : count m - 1 + 1 ≡ count m = omega arith in
+          omega (arith, e (count m - 1) end, apart k (count m - 1) (omega (arith, eqb-false (k + 1) (count m) q)) (omega arith))
 
   -- before the first entry the reader has come to code 1
   pub reached-start : Reached m 1 0

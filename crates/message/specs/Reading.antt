@@ -6,6 +6,7 @@ use mathlib.Core.List.{List}
 use lib.ListN.{getD}
 use Rattle.octets.specs.Choice.{choose}
 use Rattle.message.specs.Layout.{count, codeAt, layoutRight}
+use Rattle.message.specs.Values.{isThere}
 
 -- the layout is right, under some limits and known codes, of which 0 is none
 pub record Laid (m : List ℕ) : Type 0 where
@@ -24,3 +25,7 @@ pub record Reached (m : List ℕ) (code at : ℕ) : Type 0 where
 -- the place for the next code: one entry on where the element is there
 abbrev pub nextPlace : ℕ → Bool → ℕ
 nextPlace at here = choose here (at + 1) at
+
+-- no element above a code is there
+abbrev pub NoneAbove : List ℕ → ℕ → Type 0
+NoneAbove m last = (code : ℕ) → last < code → isThere code m ≡ false

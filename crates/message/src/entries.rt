@@ -5,7 +5,7 @@ ghost use lib.ListN.{length};
 ghost use Rattle.octets.specs.Part.{PartOf};
 ghost use Rattle.message.specs.Values.{entries, entryFrom, endOf, valueAt, isThere};
 ghost use Rattle.message.specs.Layout.{countSize, entrySize};
-ghost use Rattle.message.specs.Reading.{Laid, Reached, nextPlace};
+ghost use Rattle.message.specs.Reading.{Laid, Reached, nextPlace, NoneAbove};
 use crate::layout::CODE;
 use crate::layout::COUNT;
 use crate::layout::ENTRY;
@@ -108,4 +108,16 @@ pub fn next_place(at: usize, here: bool) -> usize
         return at + 1;
     }
     at
+}
+
+// The code of the last entry, 0 where there is none; codes rise.
+pub fn last_code(m: &[u8]) -> usize
+    requires { ⌜ Laid (now m) ⌝ }
+    ensures { λ r. ⌜ NoneAbove (now (m .entry)) r ⌝ }
+{
+    let n = entries_of(m);
+    if n == 0 {
+        return 0;
+    }
+    u16_inside(m, COUNT + ENTRY * (n - 1))
 }

@@ -4,6 +4,7 @@ mod layout;
 
 pub use entries::entries_of;
 pub use entries::is_here;
+pub use entries::last_code;
 pub use entries::next_place;
 pub use entries::value_here;
 pub use layout::layout_right;

@@ -15,7 +15,6 @@ use Rattle.ledger.specs.declared.header.Header.{Header}
 use Rattle.ledger.specs.Header.{rowsInUse, nextIdentifier, headerOf}
 use Rattle.ledger.specs.Rows.{rowAt, statusOf, identifierOf, placeOf, isKnown, swapStatus, swapIdentifier}
 use Rattle.submission.specs.Submission.{rowRight, hasWrongRow}
-use Rattle.repository.specs.declared.swap.Swap.{Swap}
 use Rattle.repository.specs.declared.swap.SwapCheck.{SwapCheck}
 use Rattle.repository.specs.declared.swap.SwapCheck.the-variants.{Fault, Value}
 use Rattle.repository.specs.Decision.{swapIn, checkedSwap}
@@ -26,9 +25,6 @@ unfolding headerOf isKnown
 known-fits l u h g fit e =
     let rows : h .rows ≡ rowsInUse l = ap (λ (x : Header). x .rows) g in
     omega (arith, fit, rows, ltb-true (placeOf l u) (rowsInUse l) e)
-
-pub place-fits : (l u : List ℕ) (s : Swap) → s ≡ swapIn l u → rowStart (placeOf l u + 1) ≤ length l → rowStart (s .place + 1) ≤ length l
-place-fits l u s e h = rw e h
 
 -- rule 14 by a row's status and identifier
 pub row-right-is : (l : List ℕ) (k next status identifier : ℕ) → next ≡ nextIdentifier l → status ≡ statusOf (rowAt l k) → identifier ≡ identifierOf (rowAt l k)

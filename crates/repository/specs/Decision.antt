@@ -1,6 +1,6 @@
 -- What a submission decides by reading, as the code's enums have it: document 01's number and values for each case.
 use Prim.Native.Nat.{ℕ, _+_, _^_, _<_, _≤_}
-use mathlib.Core.Bool.{true}
+use mathlib.Core.Bool.{true, false}
 use mathlib.Core.Path.{_≡_}
 use mathlib.Core.List.{List}
 use lib.ListN.{length}
@@ -13,12 +13,13 @@ use Rattle.actions.specs.Actions.{writesLine}
 use Rattle.actions.specs.Statuses.{nextStatus}
 use Rattle.rules.specs.declared.Judged.{Judged}
 use Rattle.rules.specs.declared.Judged.the-variants as judged
-use Rattle.rules.specs.Findings.{firstBroken}
+use Rattle.rules.specs.Findings.{firstBroken, fromRule}
 use Rattle.ledger.specs.Layout.{u32, utiSize, rowStart, lineSize, identifierLimit}
-use Rattle.ledger.specs.Header.{rowsInUse, nextIdentifier, capsIn, areCaps}
+use Rattle.ledger.specs.declared.header.Header.{Header}
+use Rattle.ledger.specs.Header.{rowsInUse, nextIdentifier, capsIn, areCaps, headerOf}
 use Rattle.ledger.specs.Rows.{placeOf, swapStatus, swapIdentifier}
 use Rattle.submission.specs.Opening.{Limits}
-use Rattle.submission.specs.Submission.{swapOf, actionIn, hasWrongRow, swapRules, verdictOn, placeFor}
+use Rattle.submission.specs.Submission.{swapOf, actionIn, hasWrongRow, isNotAdmitted, swapRules, rulesOn, verdictOn, placeFor}
 use Rattle.repository.specs.declared.answer.Answer.{Answer}
 use Rattle.repository.specs.declared.swap.Swap.{Swap}
 use Rattle.repository.specs.declared.swap.SwapCheck.{SwapCheck}
@@ -61,9 +62,13 @@ decided v (checked.Value a) l m = choose (eqb (v .0) 0) (Value (acceptanceFor a 
 unfoldable pub decision : Limits → List ℕ → List ℕ → List ℕ → Decision
 decision limits l t m = decided (verdictOn limits l t m) (actionIn m) l m
 
--- what is left to decide, by rules 14 to 18, where no earlier rule is broken
-unfoldable pub afterMessage : Action → List ℕ → List ℕ → Decision
-afterMessage a l m = decided (firstBroken (swapRules a l m)) (checked.Value a) l m
+-- what is left to decide where no rule before number n is broken
+unfoldable pub decisionFrom : ℕ → Limits → List ℕ → List ℕ → List ℕ → Decision
+decisionFrom n limits l t m = decided (firstBroken (fromRule n (rulesOn limits l t m))) (actionIn m) l m
+
+-- the same among the rules after those of the message alone
+unfoldable pub swapDecisionFrom : ℕ → Action → List ℕ → List ℕ → Decision
+swapDecisionFrom n a l m = decided (firstBroken (fromRule n (swapRules a l m))) (checked.Value a) l m
 
 -- a refusal under the rules of the message alone
 abbrev pub refusedAs : Judged → Decision
@@ -74,6 +79,18 @@ refusedAs (judged.Value a) = Refused 0 0
 abbrev pub decisionAnswer : Decision → Answer
 decisionAnswer (Refused v e) = refusalAnswer v e
 decisionAnswer (Value s) = answerWith 0 0 0 (choose (writesLine (s .action)) (s .next) 0)
+
+-- ---- what was read on the way
+
+-- the header's numbers; the rows in use lie within the ledger
+abbrev pub HeaderRead : Header → List ℕ → Type 0
+HeaderRead header l = (header ≡ headerOf l) × (rowStart (header .rows) ≤ length l)
+
+-- from 15 on: the swap's status admits the action
+pub record Admitted (l m : List ℕ) (h : Header) (s : Acceptance) : Type 0 where
+  pub header : HeaderRead h l
+  pub acceptance : s ≡ acceptanceFor (s .action) l m
+  pub step : isNotAdmitted (s .action) l (swapOf m) ≡ false
 
 -- ---- what the writes of an acceptance need, so that they cannot fail
 

@@ -1,13 +1,10 @@
 // The swap that a message or a question names: what the ledger has of it, and rule 14.
-ghost use Prim.Native.Nat.{_-_, _≤_};
+ghost use Prim.Native.Nat.{_-_};
 ghost use mathlib.Core.Path.{_≡_};
-ghost use lib.ListN.{length};
 ghost use Rattle.octets.specs.Choice.{both};
 ghost use Rattle.values.specs.Run.{within};
 ghost use Rattle.actions.specs.Statuses.{live, ported};
-ghost use Rattle.ledger.specs.Layout.{rowStart};
-ghost use Rattle.ledger.specs.Header.{headerOf};
-ghost use Rattle.repository.specs.Decision.{checkedSwap};
+ghost use Rattle.repository.specs.Decision.{checkedSwap, HeaderRead};
 use actions::LIVE;
 use actions::PORTED;
 use actions::UNKNOWN;
@@ -47,7 +44,7 @@ fn is_row_right(next: u64, status: u8, identifier: u64) -> bool
 
 // Looks up the swap among the rows in use.
 pub fn find_swap(l: &[u8], header: Header, uti: &[u8]) -> SwapCheck
-    requires { ⌜ (header ≡ headerOf (now l)) × (rowStart (header .rows) ≤ length (now l)) ⌝ }
+    requires { ⌜ HeaderRead header (now l) ⌝ }
     ensures { λ r. ⌜ r ≡ checkedSwap (now (l .entry)) (now (uti .entry)) ⌝ }
 {
     let rows = header.rows as usize;

@@ -1,18 +1,16 @@
--- Laws for the chain of checks in `rules::judge`: what is left to judge at each of them. Assumes nothing.
-use Prim.Native.Nat.{ℕ, suc, _<_}
-use mathlib.Core.Bool.{Bool, true, false}
+-- The chain of `rules::judge`: where a check stops it, and where it hands on. Assumes nothing.
+use Prim.Native.Nat.{ℕ}
+use mathlib.Core.Bool.{false}
 use mathlib.Core.Path.{_≡_, refl, sym, ap, _∙_}
 use mathlib.Core.List.{List}
-use lib.ListN.{length, getD, drop}
 use lib.Dec.{eqb}
 use Rattle.actions.specs.declared.Action.{Action}
 use Rattle.actions.specs.declared.Checked.{Checked}
 use Rattle.actions.specs.declared.Checked.the-variants.{Fault, Value}
-use Rattle.rules.specs.declared.Judged.{Judged}
 use Rattle.rules.specs.declared.Judged.the-variants as answer
-use Rattle.rules.specs.Findings.{Finding, passed, broken, brokenIf, firstBroken, noRule}
-use Rattle.rules.specs.Rules.{answerOf, rulesOf, conclude}
-use Rattle.rules.proofs.FindingLaws.{go-on, stop-at}
+use Rattle.rules.specs.Findings.{Finding, passed, broken, Rule, firstBroken, findingOf, fromRule}
+use Rattle.rules.specs.Rules.{answerOf, laidRules, conclude, judgedFrom, refusedBy}
+use Rattle.rules.proofs.FindingLaws.{afterRule, stops-at, goes-on}
 
 -- a refusal, whether or not there is an action
 pub refuses : (n e : ℕ) (r : Checked) → eqb n 0 ≡ false → conclude (n, e) r ≡ answer.Refused n e
@@ -34,53 +32,18 @@ broken-by a code (broken d) e =
     let z : Fault d ≡ Fault code = e in
     cc
 
--- the places of the rules for an action
-abbrev pub neededAt : ℕ
-neededAt = 0
+module _ (n : ℕ) (a : Action) (m : List ℕ) where
+  abbrev rs : List Rule
+  rs = laidRules (Value a) m
 
-abbrev pub takenAt : ℕ
-takenAt = suc neededAt
+  pub check-stops : eqb n 0 ≡ false → {d : Checked} {code : ℕ} → d ≡ answerOf a (findingOf n rs) → d ≡ Fault code → refusedBy n d ≡ judgedFrom n (Value a) m
+  unfolding judgedFrom
+  check-stops some {d} {code} e f =
+      ap (refusedBy n) f
+      ∙ sym (ap (λ v. conclude v (Value a)) (stops-at n code rs (broken-by a code (findingOf n rs) (sym e ∙ f))) ∙ refuses n code (Value a) some)
 
-abbrev pub formedAt : ℕ
-formedAt = suc takenAt
-
-abbrev pub pairAt : ℕ
-pairAt = suc formedAt
-
-abbrev pub dueAt : ℕ
-dueAt = suc pairAt
-
-abbrev pub priceAt : ℕ
-priceAt = suc dueAt
-
-abbrev pub orderAt : ℕ
-orderAt = suc priceAt
-
--- what is left to judge where k of the rules for an action are passed
-unfoldable pub left : ℕ → Action → List ℕ → Judged
-left k a m = conclude (firstBroken (drop k (rulesOf a m))) (Value a)
-
-module _ (k : ℕ) (a : Action) (m : List ℕ) (h : k < length (rulesOf a m)) where
-  -- a check that answers an enum
-  pub check-on : (b : Action) → answerOf a (getD (rulesOf a m) k noRule .1) ≡ Value b → left k a m ≡ left (suc k) b m
-  unfolding left
-  check-on b e =
-      let p = passed-by a b (getD (rulesOf a m) k noRule .1) e in
-      ap (λ v. conclude v (Value a)) (go-on (rulesOf a m) k h (p .0)) ∙ ap (λ d. conclude (firstBroken (drop (suc k) (rulesOf d m))) (Value d)) (sym (p .1))
-
-  pub check-stop : (code : ℕ) → eqb (getD (rulesOf a m) k noRule .0) 0 ≡ false → answerOf a (getD (rulesOf a m) k noRule .1) ≡ Fault code → left k a m ≡ answer.Refused (getD (rulesOf a m) k noRule .0) code
-  unfolding left
-  check-stop code n e =
-      ap (λ v. conclude v (Value a)) (stop-at (rulesOf a m) k h code (broken-by a code (getD (rulesOf a m) k noRule .1) e))
-      ∙ refuses (getD (rulesOf a m) k noRule .0) code (Value a) n
-
-  -- a test
-  pub test-on : (t : Bool) → getD (rulesOf a m) k noRule .1 ≡ brokenIf t → t ≡ false → left k a m ≡ left (suc k) a m
-  unfolding left
-  test-on t f e = ap (λ v. conclude v (Value a)) (go-on (rulesOf a m) k h (f ∙ ap brokenIf e))
-
-  pub test-stop : (t : Bool) → eqb (getD (rulesOf a m) k noRule .0) 0 ≡ false → getD (rulesOf a m) k noRule .1 ≡ brokenIf t → t ≡ true → left k a m ≡ answer.Refused (getD (rulesOf a m) k noRule .0) 0
-  unfolding left
-  test-stop t n f e =
-      ap (λ v. conclude v (Value a)) (stop-at (rulesOf a m) k h 0 (f ∙ ap brokenIf e))
-      ∙ refuses (getD (rulesOf a m) k noRule .0) 0 (Value a) n
+  pub check-on : (k : ℕ) {b : Action} {d : Checked} → afterRule n rs ≡ fromRule k rs → d ≡ answerOf a (findingOf n rs) → d ≡ Value b → judgedFrom k (Value b) m ≡ judgedFrom n (Value a) m
+  unfolding judgedFrom
+  check-on k {b} next e f =
+      let p = passed-by a b (findingOf n rs) (sym e ∙ f) in
+      ap (λ x. judgedFrom k (Value x) m) (p .1) ∙ sym (ap (λ v. conclude v (Value a)) (goes-on n rs (p .0) ∙ ap firstBroken next))

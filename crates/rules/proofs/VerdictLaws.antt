@@ -1,10 +1,10 @@
 -- Document 01, 'Verdict numbers', in words: what verdict and element say of a message. Assumes nothing.
-use Prim.Native.Nat.{ℕ, suc, _<_}
+use Prim.Native.Nat.{ℕ, _<_}
 use native.Mathlib.Omega.{arith}
-use mathlib.Core.Bool.{Bool, true, false, not, false≢true}
+use mathlib.Core.Bool.{Bool, true, false, false≢true}
 use mathlib.Core.Path.{_≡_, refl, sym, ap, _∙_}
+use mathlib.Core.Logic.{_↔_}
 use mathlib.Core.List.{List, [], _∷_}
-use lib.ListN.{length}
 use lib.Dec.{eqb, lit<}
 use borrow.Author.Tests.{eqb-true}
 use Prim.Native.String.{String}
@@ -17,15 +17,13 @@ use Rattle.actions.specs.declared.Action.{Action}
 use Rattle.actions.specs.declared.Checked.{Checked}
 use Rattle.actions.specs.declared.Checked.the-variants.{Fault, Value}
 use Rattle.actions.specs.Actions.{actionCode, actionCodes, actionOf}
-use Rattle.actions.specs.Elements.{hasLayout}
 use Rattle.elements.specs.Forms.{isRead}
 use Rattle.rules.specs.declared.checks.Check.{Check}
 use Rattle.rules.specs.declared.checks.Check.the-variants.{Needed, Taken, Formed, Due}
-use Rattle.rules.specs.Verdicts.{layoutWrong, noAction}
-use Rattle.rules.specs.Findings.{passed, broken, brokenIf, lowest, firstBroken, numberAt, findingAt, FirstBroken, LowestAtFault}
-use Rattle.rules.specs.Rules.{atFault, numberOf, finding, rulesOf, rulesFor, rules, verdict, conclude, judged, verdictOf}
-use Rattle.rules.proofs.JudgeLaws.{neededAt, takenAt, formedAt, dueAt}
-use Rattle.rules.proofs.FindingLaws.{unused, distinct, broken-first, first-broken, all-passed, none-broken, lowest-broken}
+use Rattle.rules.specs.Verdicts.{noAction, neededMissing, notTaken, formBroken, dueMissing}
+use Rattle.rules.specs.Findings.{broken, lowest, firstBroken, findingOf, isOneOf, AllPassed, FirstBroken, LowestAtFault}
+use Rattle.rules.specs.Rules.{actionIn, atFault, numberOf, finding, rulesOf, rulesFor, rules, verdict, conclude, judged, verdictOf}
+use Rattle.rules.proofs.FindingLaws.{unused, distinct, namedBy, names-none, broken-first, first-broken, all-passed, none-broken, lowest-broken}
 
 -- no two rules have the same number, and none has 0
 pub differ : (r : Checked) (longest : ℕ) (m : List ℕ) → distinct (rulesFor r longest m) ≡ true
@@ -36,24 +34,17 @@ differ (Value a) longest m = refl
 pub numbers-differ : (longest : ℕ) (m : List ℕ) → distinct (rules longest m) ≡ true
 numbers-differ longest m = differ (actionOf (value actionCode m)) longest m
 
--- the verdict is that of rule i, with element e, exactly where rule i is broken, names e, and no earlier one is broken
-pub verdict-exactly : (longest : ℕ) (m : List ℕ) (i e : ℕ) → i < length (rules longest m) → (verdict longest m ≡ (numberAt (rules longest m) i, e) → FirstBroken (rules longest m) i e) × (FirstBroken (rules longest m) i e → verdict longest m ≡ (numberAt (rules longest m) i, e))
+-- the verdict is n, with element e, exactly where the rule with number n is broken, names e, and no earlier one is broken
+pub verdict-exactly : (longest : ℕ) (m : List ℕ) (n e : ℕ) → 0 < n → (verdict longest m ≡ (n, e)) ↔ FirstBroken (rules longest m) n e
 unfolding verdict
-verdict-exactly longest m i e h = (broken-first (rules longest m) i e (numbers-differ longest m) h, first-broken (rules longest m) i e h)
+verdict-exactly longest m n e p = (broken-first (rules longest m) n e (numbers-differ longest m) p, first-broken (rules longest m) n e)
 
 -- the verdict is 0 exactly where every rule is passed; it names no element then
-pub accepted-exactly : (longest : ℕ) (m : List ℕ) → (verdict longest m .0 ≡ 0 → (i : ℕ) → i < length (rules longest m) → findingAt (rules longest m) i ≡ passed) × (((i : ℕ) → i < length (rules longest m) → findingAt (rules longest m) i ≡ passed) → verdict longest m ≡ (0, 0))
+pub accepted-exactly : (longest : ℕ) (m : List ℕ) → (verdict longest m .0 ≡ 0 → AllPassed (rules longest m)) × (AllPassed (rules longest m) → verdict longest m ≡ (0, 0))
 unfolding verdict
 accepted-exactly longest m = (all-passed (rules longest m) (numbers-differ longest m), none-broken (rules longest m))
 
 -- ---- the element that a verdict names
-
--- a test names no element
-pub of-test : (t : Bool) (e : ℕ) → brokenIf t ≡ broken e → e ≡ 0
-of-test true e f = cc
-of-test false e f =
-    let z : _≡_ {A = ℕ} 0 1 = cc in
-    absurd (omega arith)
 
 of-finding : (r : Checked) (e : ℕ) → finding r ≡ broken e → r ≡ Fault e
 of-finding (Fault code) e f = cc
@@ -80,30 +71,34 @@ fault-code (c ∷ cs) v e all f =
     by false r is g rest = rest g
 
 module _ (longest : ℕ) (m : List ℕ) (a : Action) (read : actionOf (value actionCode m) ≡ Value a) where
-  -- a rule for the action whose number is the verdict is broken
-  broken-at : (i e : ℕ) → i < length (rulesOf a m) → verdict longest m ≡ (numberAt (rulesOf a m) i, e) → findingAt (rulesOf a m) i ≡ broken e
-  unfolding verdict rulesFor
-  broken-at i e h v = broken-first (rulesFor (Value a) longest m) (suc (suc i)) e (differ (Value a) longest m) (omega arith) (ap (λ r. firstBroken (rulesFor r longest m)) (sym read) ∙ v) .0
+  -- a rule whose number is the verdict is broken
+  broken-at : (n e : ℕ) → 0 < n → verdict longest m ≡ (n, e) → findingOf n (rulesFor (Value a) longest m) ≡ broken e
+  unfolding verdict
+  broken-at n e p v = broken-first (rulesFor (Value a) longest m) n e (differ (Value a) longest m) p (ap (λ r. firstBroken (rulesFor r longest m)) (sym read) ∙ v) .0
 
   -- 7, 8, 9 and 11: the element is at fault and no lower one is
   pub names-lowest : (k : Check) (e : ℕ) → verdict longest m ≡ (numberOf k, e) → LowestAtFault (atFault k a m) e
-  unfolding rulesOf
+  unfolding findingOf rulesFor rulesOf
   names-lowest k e v = lowest-broken (atFault k a m) e (by k v)
     where
       by : (k : Check) → verdict longest m ≡ (numberOf k, e) → lowest (atFault k a m) ≡ broken e
-      by Needed w = broken-at neededAt e (lit< tt) w
-      by Taken w = broken-at takenAt e (lit< tt) w
-      by Formed w = broken-at formedAt e (lit< tt) w
-      by Due w = broken-at dueAt e (lit< tt) w
+      by Needed w = broken-at (numberOf Needed) e (lit< tt) w
+      by Taken w = broken-at (numberOf Taken) e (lit< tt) w
+      by Formed w = broken-at (numberOf Formed) e (lit< tt) w
+      by Due w = broken-at (numberOf Due) e (lit< tt) w
 
-  -- 10, 12 and 13, which are tests of the message as a whole: the element is 0
-  pub names-none : (i e : ℕ) (t : Bool) → i < length (rulesOf a m) → findingAt (rulesOf a m) i ≡ brokenIf t → verdict longest m ≡ (numberAt (rulesOf a m) i, e) → e ≡ 0
-  names-none i e t h f v = of-test t e (sym f ∙ broken-at i e h v)
+-- the numbers that name an element
+abbrev pub namingNumbers : List ℕ
+namingNumbers = noAction ∷ neededMissing ∷ notTaken ∷ formBroken ∷ dueMissing ∷ []
 
--- 5: the element is 0
-pub layout-names-none : (longest : ℕ) (m : List ℕ) (e : ℕ) → verdict longest m ≡ (layoutWrong, e) → e ≡ 0
-unfolding verdict rulesFor
-layout-names-none longest m e v = of-test (not (hasLayout longest m)) e (broken-first (rules longest m) 0 e (numbers-differ longest m) (omega arith) v .0)
+-- under every other one the element is 0
+pub others-name-none : (longest : ℕ) (m : List ℕ) → isOneOf namingNumbers (verdict longest m .0) ≡ false → verdict longest m .1 ≡ 0
+unfolding verdict namedBy isOneOf rulesFor rulesOf
+others-name-none longest m other = names-none namingNumbers (rules longest m) (by (actionIn m)) other
+  where
+    by : (r : Checked) → namedBy namingNumbers (rulesFor r longest m) ≡ true
+    by (Fault code) = refl
+    by (Value a) = refl
 
 -- 6: the element is the action's
 pub action-at-fault : (v : List ℕ) (e : ℕ) → finding (actionOf v) ≡ broken e → e ≡ actionCode
@@ -111,8 +106,8 @@ unfolding actionOf allRead
 action-at-fault v e f = fault-code actionCodes v e refl (of-finding (actionOf v) e f)
 
 pub action-names-itself : (longest : ℕ) (m : List ℕ) (e : ℕ) → verdict longest m ≡ (noAction, e) → e ≡ actionCode
-unfolding verdict rulesFor
-action-names-itself longest m e v = action-at-fault (value actionCode m) e (broken-first (rules longest m) 1 e (numbers-differ longest m) (omega arith) v .0)
+unfolding verdict rulesFor findingOf
+action-names-itself longest m e v = action-at-fault (value actionCode m) e (broken-first (rules longest m) noAction e (numbers-differ longest m) (lit< tt) v .0)
 
 -- the answer of judging has the verdict's number and element
 pub judged-verdict : (longest : ℕ) (m : List ℕ) → verdictOf (judged longest m) ≡ verdict longest m

@@ -1,6 +1,7 @@
 -- Document 01, 'Verdict numbers': rules 5 to 13, which judge a message alone.
 use Prim.Native.Nat.{ℕ, _+_}
 use mathlib.Core.Bool.{Bool, not}
+use mathlib.Core.Path.{_≡_}
 use mathlib.Core.List.{List, [], _∷_}
 use lib.ListN.{length}
 use lib.Dec.{ltb, eqb}
@@ -13,13 +14,14 @@ use Rattle.actions.specs.declared.Action.{Action}
 use Rattle.actions.specs.declared.Checked.{Checked}
 use Rattle.actions.specs.declared.Checked.the-variants as checked
 use Rattle.actions.specs.Actions.{actionCode, actionOf, isFull}
-use Rattle.actions.specs.Elements.{hasLayout, takes, needs}
+use Rattle.elements.specs.Messages.{hasLayout, takes, needs}
 use Rattle.actions.specs.Matrix.{pairAllowed}
 use Rattle.elements.specs.Codes.{eventType, reportingTime, executionTime, effectiveDate, expirationDate, settlementDate, packagePrice}
 use Rattle.elements.specs.Forms.{hasForm}
-use Rattle.elements.specs.Conditions.{isPackage, notationIs, isDue}
+use Rattle.elements.specs.Conditions.{isPackage, notationIs, factsOf, isDue}
+use Rattle.elements.specs.declared.conditions.Facts.{Facts}
 use Rattle.rules.specs.Verdicts.{layoutWrong, noAction, neededMissing, notTaken, formBroken, notPair, dueMissing, priceLong, orderWrong}
-use Rattle.rules.specs.Findings.{Finding, passed, broken, brokenIf, lowest, firstBroken}
+use Rattle.rules.specs.Findings.{Finding, passed, broken, lowest, Rule, test, naming, firstBroken, fromRule}
 use Rattle.rules.specs.declared.Judged.{Judged}
 use Rattle.rules.specs.declared.Judged.the-variants as answer
 use Rattle.rules.specs.declared.checks.Check.{Check}
@@ -40,6 +42,13 @@ atFault Needed a m code = both (needs a code) (not (isThere code m))
 atFault Taken a m code = both (isThere code m) (not (takes a code))
 atFault Formed a m code = both (isThere code m) (not (hasForm code (value code m)))
 atFault Due a m code = both (isDue code m) (not (isThere code m))
+
+-- check 11 is handed what the conditions ask of the message, the others nothing
+abbrev pub FactsFor : Check → Facts → List ℕ → Type 0
+FactsFor Needed f m = Unit {0}
+FactsFor Taken f m = Unit {0}
+FactsFor Formed f m = Unit {0}
+FactsFor Due f m = f ≡ factsOf m
 
 -- the number of a check
 abbrev pub numberOf : Check → ℕ
@@ -72,31 +81,36 @@ outOfOrder a m =
     (either (elementBefore m settlementDate expirationDate) (elementBefore m reportingTime executionTime)))
 
 -- rules 7 to 13, for the message's action
-unfoldable pub rulesOf : Action → List ℕ → List (ℕ × Finding)
+unfoldable pub rulesOf : Action → List ℕ → List Rule
 rulesOf a m =
-    (neededMissing, lowest (atFault Needed a m))
-    ∷ (notTaken, lowest (atFault Taken a m))
-    ∷ (formBroken, lowest (atFault Formed a m))
-    ∷ (notPair, brokenIf (not (pairAllowed a (value eventType m))))
-    ∷ (dueMissing, lowest (atFault Due a m))
-    ∷ (priceLong, brokenIf (priceTooLong m))
-    ∷ (orderWrong, brokenIf (outOfOrder a m))
+    naming neededMissing (lowest (atFault Needed a m))
+    ∷ naming notTaken (lowest (atFault Taken a m))
+    ∷ naming formBroken (lowest (atFault Formed a m))
+    ∷ test notPair (not (pairAllowed a (value eventType m)))
+    ∷ naming dueMissing (lowest (atFault Due a m))
+    ∷ test priceLong (priceTooLong m)
+    ∷ test orderWrong (outOfOrder a m)
     ∷ []
 
 -- where 6 is broken there is no action, and nothing is judged after it
-abbrev pub afterAction : Checked → List ℕ → List (ℕ × Finding)
+abbrev pub afterAction : Checked → List ℕ → List Rule
 afterAction (checked.Fault code) m = []
 afterAction (checked.Value a) m = rulesOf a m
 
--- the rules in checking order, by what the action's element says
-unfoldable pub rulesFor : Checked → ℕ → List ℕ → List (ℕ × Finding)
-rulesFor action longest m =
-    (layoutWrong, brokenIf (not (hasLayout longest m)))
-    ∷ (noAction, finding action)
-    ∷ afterAction action m
+-- the rules after the layout's, by what the action's element says
+abbrev pub laidRules : Checked → List ℕ → List Rule
+laidRules action m = naming noAction (finding action) ∷ afterAction action m
 
-abbrev pub rules : ℕ → List ℕ → List (ℕ × Finding)
-rules longest m = rulesFor (actionOf (value actionCode m)) longest m
+-- the rules in checking order
+unfoldable pub rulesFor : Checked → ℕ → List ℕ → List Rule
+rulesFor action longest m = test layoutWrong (not (hasLayout longest m)) ∷ laidRules action m
+
+-- what the value of the action's element says
+abbrev pub actionIn : List ℕ → Checked
+actionIn m = actionOf (value actionCode m)
+
+abbrev pub rules : ℕ → List ℕ → List Rule
+rules longest m = rulesFor (actionIn m) longest m
 
 -- verdict and element of a message alone; 0 and 0 where no rule from 5 to 13 is broken
 unfoldable pub verdict : ℕ → List ℕ → ℕ × ℕ
@@ -108,7 +122,11 @@ conclude v (checked.Fault code) = answer.Refused (v .0) (v .1)
 conclude v (checked.Value a) = choose (eqb (v .0) 0) (answer.Value a) (answer.Refused (v .0) (v .1))
 
 unfoldable pub judged : ℕ → List ℕ → Judged
-judged longest m = conclude (verdict longest m) (actionOf (value actionCode m))
+judged longest m = conclude (verdict longest m) (actionIn m)
+
+-- what judging answers where the layout is right and no rule before number n is broken
+unfoldable pub judgedFrom : ℕ → Checked → List ℕ → Judged
+judgedFrom n action m = conclude (firstBroken (fromRule n (laidRules action m))) action
 
 -- a refusal by a check that names an element
 abbrev pub refusedBy : ℕ → Checked → Judged

@@ -5,21 +5,23 @@ ghost use lib.ListN.{length};
 ghost use Rattle.message.specs.Layout.{countSize, entrySize};
 ghost use Rattle.message.specs.Values.{entries, isThere};
 ghost use Rattle.message.specs.Reading.{Laid, Reached};
+ghost use Rattle.elements.specs.Conditions.{factsOf};
 ghost use Rattle.rules.specs.Findings.{lowest};
-ghost use Rattle.rules.specs.Rules.{answerOf, atFault, longPrice, priceTooLong, elementBefore, outOfOrder};
+ghost use Rattle.rules.specs.Rules.{answerOf, atFault, FactsFor, longPrice, priceTooLong, elementBefore, outOfOrder};
 use actions::Action;
 use actions::Checked;
-use actions::LAST_CODE;
 use elements::EFFECTIVE_DATE;
 use elements::EXECUTION_TIME;
 use elements::EXPIRATION_DATE;
-use elements::NON_STANDARDIZED_TERM;
+use elements::Facts;
+use elements::LAST_CODE;
 use elements::PACKAGE_PRICE;
 use elements::REPORTING_TIME;
 use elements::SETTLEMENT_DATE;
 use message::element;
 use message::entries_of;
 use message::is_here;
+use message::last_code;
 use message::next_place;
 use message::value_here;
 
@@ -31,6 +33,13 @@ pub enum Check {
     Due,
 }
 
+// What a check is handed that asks for no facts.
+pub const NO_FACTS: Facts = Facts {
+    uncleared: false,
+    packaged: false,
+    currency: false,
+};
+
 // The most digits of a price with notation 3, in all and after the point.
 const NOTATION_THREE_DIGITS: usize = 11;
 
@@ -40,6 +49,7 @@ const NOTATION_THREE_DECIMALS: usize = 10;
 fn is_at_fault(
     m: &[u8],
     n: usize,
+    facts: Facts,
     action: Action,
     check: Check,
     code: u16,
@@ -51,6 +61,7 @@ fn is_at_fault(
     requires { ⌜ Laid (now m) ⌝ }
     requires { ⌜ Reached (now m) code at ⌝ }
     requires { ⌜ here ≡ isThere code (now m) ⌝ }
+    requires { ⌜ FactsFor check facts (now m) ⌝ }
     ensures { λ r. ⌜ r ≡ atFault check action (now (m .entry)) code ⌝ }
 {
     match check {
@@ -58,13 +69,13 @@ fn is_at_fault(
             if here {
                 return false;
             }
-            actions::is_needed(action, code as usize)
+            elements::is_needed(action, code)
         }
         Check::Taken => {
             if !here {
                 return false;
             }
-            !actions::is_taken(action, code as usize)
+            !elements::is_taken(action, code)
         }
         Check::Formed => {
             if !here {
@@ -76,14 +87,15 @@ fn is_at_fault(
             if here {
                 return false;
             }
-            elements::is_due(m, code)
+            elements::is_due(facts, code)
         }
     }
 }
 
 // The lowest element code at fault, or the action. Codes rise, so one reader comes to each of them in turn.
-pub fn lowest_fault(m: &[u8], action: Action, check: Check) -> Checked
+pub fn lowest_fault(m: &[u8], facts: Facts, action: Action, check: Check) -> Checked
     requires { ⌜ Laid (now m) ⌝ }
+    requires { ⌜ FactsFor check facts (now m) ⌝ }
     ensures { λ r. ⌜ r ≡ answerOf action (lowest (atFault check action (now (m .entry)))) ⌝ }
 {
     let n = entries_of(m);
@@ -91,7 +103,7 @@ pub fn lowest_fault(m: &[u8], action: Action, check: Check) -> Checked
     let mut at: usize = 0;
     while code as usize <= LAST_CODE {
         let here = is_here(m, n, code, at);
-        if is_at_fault(m, n, action, check, code, at, here) {
+        if is_at_fault(m, n, facts, action, check, code, at, here) {
             return Checked::Fault(code as u8);
         }
         at = next_place(at, here);
@@ -100,33 +112,16 @@ pub fn lowest_fault(m: &[u8], action: Action, check: Check) -> Checked
     Checked::Value(action)
 }
 
-// The lowest element code that the action does not take, or the action. A full action takes every code, so nothing is looked at.
+// The lowest element code that the action does not take, or the action. Where the last code is one up to which the action takes each,
+// nothing else is looked at.
 pub fn lowest_not_taken(m: &[u8], action: Action) -> Checked
     requires { ⌜ Laid (now m) ⌝ }
     ensures { λ r. ⌜ r ≡ answerOf action (lowest (atFault Check.Taken action (now (m .entry)))) ⌝ }
 {
-    if actions::is_full(action) {
+    if last_code(m) <= elements::taken_up_to(action) {
         return Checked::Value(action);
     }
-    lowest_fault(m, action, Check::Taken)
-}
-
-// The lowest element code that is due under its condition and missing, or the action. Without a package only the non-standardized
-// term can be due.
-pub fn lowest_due(m: &[u8], action: Action) -> Checked
-    requires { ⌜ Laid (now m) ⌝ }
-    ensures { λ r. ⌜ r ≡ answerOf action (lowest (atFault Check.Due action (now (m .entry)))) ⌝ }
-{
-    if elements::is_package(m) {
-        return lowest_fault(m, action, Check::Due);
-    }
-    if !elements::is_due(m, NON_STANDARDIZED_TERM) {
-        return Checked::Value(action);
-    }
-    if 0 < element(m, NON_STANDARDIZED_TERM).len() {
-        return Checked::Value(action);
-    }
-    Checked::Fault(NON_STANDARDIZED_TERM as u8)
+    lowest_fault(m, NO_FACTS, action, Check::Taken)
 }
 
 // Whether an unsigned number has more digits than a price with notation 3 may have.
@@ -142,10 +137,11 @@ fn is_long_price(v: &[u8]) -> bool
 }
 
 // Whether the price of a package with notation 3 is too long.
-pub fn is_price_too_long(m: &[u8]) -> bool
+pub fn is_price_too_long(m: &[u8], facts: Facts) -> bool
+    requires { ⌜ facts ≡ factsOf (now m) ⌝ }
     ensures { λ r. ⌜ r ≡ priceTooLong (now (m .entry)) ⌝ }
 {
-    if !elements::is_package(m) {
+    if !facts.packaged {
         return false;
     }
     if !elements::notation_is(m, b"3") {

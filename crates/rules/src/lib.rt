@@ -5,17 +5,22 @@ mod verdicts;
 pub use verdicts::FORM_BROKEN;
 pub use verdicts::LAYOUT_WRONG;
 ghost use mathlib.Core.Path.{_≡_};
-ghost use Rattle.rules.specs.Rules.{judged, refusedBy};
+ghost use Rattle.message.specs.Reading.{Laid};
+ghost use Rattle.elements.specs.Conditions.{factsOf};
+ghost use Rattle.actions.specs.declared.Checked.the-variants.{Value};
+ghost use Rattle.rules.specs.Verdicts.{noAction, neededMissing, notTaken, formBroken, notPair, dueMissing, priceLong, orderWrong};
+ghost use Rattle.rules.specs.Rules.{actionIn, judged, judgedFrom, refusedBy};
 use actions::ACTION_CODE;
 use actions::Action;
 use actions::Checked;
 use checks::Check;
+use checks::NO_FACTS;
 use checks::is_out_of_order;
 use checks::is_price_too_long;
-use checks::lowest_due;
 use checks::lowest_fault;
 use checks::lowest_not_taken;
 use elements::EVENT_TYPE;
+use elements::Facts;
 use message::element;
 use verdicts::DUE_MISSING;
 use verdicts::NEEDED_MISSING;
@@ -41,39 +46,105 @@ fn refused_by(verdict: u8, c: Checked) -> Judged
     }
 }
 
-// The first of the rules 5 to 13 that a message of at most `longest` bytes breaks, or its action.
+// Each function below judges one rule, in checking order, and hands on to the next. The number is the rule's.
+
+// 5. The first rule that a message of at most `longest` bytes breaks, or its action.
 pub fn judge(m: &[u8], longest: usize) -> Judged
     ensures { λ r. ⌜ r ≡ judged longest (now (m .entry)) ⌝ }
 {
-    if !actions::has_layout(m, longest) {
+    if !elements::has_layout(m, longest) {
         return Judged::Refused(LAYOUT_WRONG, 0);
     }
+    judge_action(m)
+}
+
+// 6
+fn judge_action(m: &[u8]) -> Judged
+    requires { ⌜ Laid (now m) ⌝ }
+    ensures { λ r. ⌜ r ≡ judgedFrom noAction (actionIn (now (m .entry))) (now (m .entry)) ⌝ }
+{
     let read = actions::read_action(element(m, ACTION_CODE as u16));
     let Checked::Value(action) = read else {
         return refused_by(NO_ACTION, read);
     };
-    let needed = lowest_fault(m, action, Check::Needed);
+    judge_needed(m, action)
+}
+
+// 7
+fn judge_needed(m: &[u8], action: Action) -> Judged
+    requires { ⌜ Laid (now m) ⌝ }
+    ensures { λ r. ⌜ r ≡ judgedFrom neededMissing (Value action) (now (m .entry)) ⌝ }
+{
+    let needed = lowest_fault(m, NO_FACTS, action, Check::Needed);
     let Checked::Value(action) = needed else {
         return refused_by(NEEDED_MISSING, needed);
     };
+    judge_taken(m, action)
+}
+
+// 8
+fn judge_taken(m: &[u8], action: Action) -> Judged
+    requires { ⌜ Laid (now m) ⌝ }
+    ensures { λ r. ⌜ r ≡ judgedFrom notTaken (Value action) (now (m .entry)) ⌝ }
+{
     let taken = lowest_not_taken(m, action);
     let Checked::Value(action) = taken else {
         return refused_by(NOT_TAKEN, taken);
     };
-    let formed = lowest_fault(m, action, Check::Formed);
+    judge_forms(m, action)
+}
+
+// 9
+fn judge_forms(m: &[u8], action: Action) -> Judged
+    requires { ⌜ Laid (now m) ⌝ }
+    ensures { λ r. ⌜ r ≡ judgedFrom formBroken (Value action) (now (m .entry)) ⌝ }
+{
+    let formed = lowest_fault(m, NO_FACTS, action, Check::Formed);
     let Checked::Value(action) = formed else {
         return refused_by(FORM_BROKEN, formed);
     };
+    judge_pair(m, action)
+}
+
+// 10
+fn judge_pair(m: &[u8], action: Action) -> Judged
+    requires { ⌜ Laid (now m) ⌝ }
+    ensures { λ r. ⌜ r ≡ judgedFrom notPair (Value action) (now (m .entry)) ⌝ }
+{
     if !actions::is_pair(action, element(m, EVENT_TYPE)) {
         return Judged::Refused(NOT_PAIR, 0);
     }
-    let due = lowest_due(m, action);
+    judge_due(m, action)
+}
+
+// 11
+fn judge_due(m: &[u8], action: Action) -> Judged
+    requires { ⌜ Laid (now m) ⌝ }
+    ensures { λ r. ⌜ r ≡ judgedFrom dueMissing (Value action) (now (m .entry)) ⌝ }
+{
+    let facts = elements::facts_of(m);
+    let due = lowest_fault(m, facts, action, Check::Due);
     let Checked::Value(action) = due else {
         return refused_by(DUE_MISSING, due);
     };
-    if is_price_too_long(m) {
+    judge_price(m, facts, action)
+}
+
+// 12
+fn judge_price(m: &[u8], facts: Facts, action: Action) -> Judged
+    requires { ⌜ facts ≡ factsOf (now m) ⌝ }
+    ensures { λ r. ⌜ r ≡ judgedFrom priceLong (Value action) (now (m .entry)) ⌝ }
+{
+    if is_price_too_long(m, facts) {
         return Judged::Refused(PRICE_LONG, 0);
     }
+    judge_order(m, action)
+}
+
+// 13
+fn judge_order(m: &[u8], action: Action) -> Judged
+    ensures { λ r. ⌜ r ≡ judgedFrom orderWrong (Value action) (now (m .entry)) ⌝ }
+{
     if is_out_of_order(m, action) {
         return Judged::Refused(ORDER_WRONG, 0);
     }

@@ -1,11 +1,11 @@
 -- What the verdict 0 tells of ledger, tape buffer and message. Assumes nothing.
-use Prim.Native.Nat.{ℕ, suc, _+_, _<_, _≤_}
+use Prim.Native.Nat.{ℕ, suc, _<_, _≤_}
 use mathlib.Core.Bool.{Bool, true, false, not, false≢true}
 use mathlib.Core.Path.{_≡_, refl, sym, ap, _∙_}
 use mathlib.Core.List.{List}
 use native.Mathlib.Omega.{arith}
-use lib.ListN.{length, length-append, List·getD-append}
-use lib.Dec.{eqb, leb, ltb, lit<, lit≤}
+use lib.ListN.{length}
+use lib.Dec.{eqb, leb, ltb, lit≤}
 use borrow.Author.Tests.{eqb-false, ne-eqb, leb-true, ltb-true, ltb-false}
 use Rattle.octets.specs.Choice.{both}
 use Rattle.octets.proofs.ChoiceLaws.{both-first, both-second, both-false, not-not}
@@ -19,49 +19,21 @@ use Rattle.actions.specs.Statuses.{live, ported, unknown, noStep, nextStatus}
 use Rattle.actions.proofs.KindLaws.{old-unknown, new-unknown}
 use Rattle.elements.specs.Codes.{uti}
 use Rattle.message.specs.Values.{isThere}
-use Rattle.elements.specs.Forms.{formOf, hasForm}
+use Rattle.elements.specs.Forms.{hasForm}
+use Rattle.elements.specs.Messages.{needs as is-needed}
+use Rattle.elements.specs.Table.{elementOf}
 use Rattle.rules.specs.declared.checks.Check.the-variants.{Needed, Formed}
-use Rattle.rules.specs.Findings.{passed, broken, firstBroken, noRule, findingAt}
+use Rattle.rules.specs.Verdicts.{layoutWrong, noAction, neededMissing, formBroken}
+use Rattle.rules.specs.Findings.{passed, broken, firstBroken, findingOf, fromRule, AllPassed}
 use Rattle.rules.specs.Rules.{rulesFor, rulesOf, atFault}
-use Rattle.rules.proofs.JudgeLaws.{neededAt, formedAt, orderAt}
-use Rattle.rules.proofs.FindingLaws.{not-broken, unused, distinct, all-passed, lowest-passed}
+use Rattle.rules.proofs.FindingLaws.{not-broken, unused, distinct, all-passed, is-passed, passed-from, passed-front, lowest-passed}
 use Rattle.ledger.specs.Layout.{utiSize, lineSize, identifierLimit}
 use Rattle.ledger.specs.Header.{rowsInUse, nextIdentifier, capacityIn, headerRight, RightHeader}
 use Rattle.ledger.specs.Rows.{statusOf, placeOf, isKnown, swapRow, swapStatus}
 use Rattle.ledger.proofs.RightHeader.{right-header}
+use Rattle.submission.specs.Verdicts.{ledgerWrong, tapeShort, rowWrong, notAdmitted, otherTime, ledgerFull, identifiersSpent}
 use Rattle.submission.specs.Opening.{Limits}
 use Rattle.submission.specs.Submission.{swapOf, actionIn, rowRight, hasWrongRow, isNotAdmitted, hasOtherTime, findsFull, findsSpent, swapRules, submissionRules, verdictOn, placeFor, accepted, refused, concluded, submitted}
-
--- the places of the rules: 3 and 4, then those of the message alone, where the layout and the action come before the action's own, then 14 to 18
-abbrev pub headerPlace : ℕ
-headerPlace = 0
-
-abbrev pub tapePlace : ℕ
-tapePlace = suc headerPlace
-
-abbrev pub layoutPlace : ℕ
-layoutPlace = suc tapePlace
-
-abbrev pub actionPlace : ℕ
-actionPlace = suc layoutPlace
-
-abbrev pub messagePlace : ℕ → ℕ
-messagePlace k = suc actionPlace + k
-
-abbrev pub rowPlace : ℕ
-rowPlace = messagePlace (suc orderAt)
-
-abbrev pub statusPlace : ℕ
-statusPlace = suc rowPlace
-
-abbrev pub timePlace : ℕ
-timePlace = suc statusPlace
-
-abbrev pub roomPlace : ℕ
-roomPlace = suc timePlace
-
-abbrev pub spentPlace : ℕ
-spentPlace = suc roomPlace
 
 -- ---- the rules
 
@@ -76,16 +48,16 @@ module _ (limits : Limits) (l t m : List ℕ) where
   pub record Accepting : Type 0 where
     pub action : Action
     pub reads : actionIn m ≡ Value action
-    pub passes : (i : ℕ) → i < length (submissionRules limits (Value action) l t m) → findingAt (submissionRules limits (Value action) l t m) i ≡ passed
+    pub passes : AllPassed (submissionRules limits (Value action) l t m)
 
   pub accepting : verdictOn limits l t m .0 ≡ 0 → Accepting
-  unfolding verdictOn submissionRules rulesFor
+  unfolding verdictOn submissionRules rulesFor findingOf
   accepting v = by (actionIn m) refl
     where
       by : (r : Checked) → actionIn m ≡ r → Accepting
       by (Fault code) e =
           let w : firstBroken (submissionRules limits (Fault code) l t m) .0 ≡ 0 = ap (λ r. firstBroken (submissionRules limits r l t m) .0) (sym e) ∙ v in
-          let p : broken code ≡ passed = all-passed (submissionRules limits (Fault code) l t m) (numbers-differ (Fault code)) w actionPlace (lit< tt) in
+          let p : broken code ≡ passed = is-passed noAction (submissionRules limits (Fault code) l t m) (all-passed (submissionRules limits (Fault code) l t m) (numbers-differ (Fault code)) w) in
           let z : _≡_ {A = ℕ} 0 1 = cc in
           absurd (omega arith)
       by (Value a) e =
@@ -108,7 +80,7 @@ step-known l u a admitted old = by (isKnown l u) refl
 
 -- a value of the form of a UTI
 uti-long : (v : List ℕ) → hasForm uti v ≡ true → length v ≤ utiSize
-unfolding hasForm formOf runOf
+unfolding hasForm elementOf runOf
 uti-long v e =
     let least : Bool = leb utiLeast (length v) in
     let most : Bool = leb (length v) utiMost in
@@ -124,50 +96,52 @@ pub record Fits (limits : Limits) (l t m : List ℕ) (a : Action) : Type 0 where
   -- the row lies within the capacity
   pub place : placeFor a l m < capacityIn l
 
-module _ (limits : Limits) (l t m : List ℕ) (a : Action) (passes : (i : ℕ) → i < length (submissionRules limits (Value a) l t m) → findingAt (submissionRules limits (Value a) l t m) i ≡ passed) where
+module _ (limits : Limits) (l t m : List ℕ) (a : Action) (passes : AllPassed (submissionRules limits (Value a) l t m)) where
+  -- the rule with number n
+  rule-passed : (n : ℕ) → findingOf n (submissionRules limits (Value a) l t m) ≡ passed
+  rule-passed n = is-passed n (submissionRules limits (Value a) l t m) passes
+
   pub header-test : headerRight (limits .largest) l ≡ true
-  unfolding submissionRules rulesFor rulesOf swapRules
-  header-test = not-not _ (not-broken _ (passes headerPlace (lit< tt)))
+  unfolding submissionRules rulesFor rulesOf swapRules findingOf
+  header-test = not-not _ (not-broken _ (rule-passed ledgerWrong))
 
   pub tape-test : ltb (length t) lineSize ≡ false
-  unfolding submissionRules rulesFor rulesOf swapRules
-  tape-test = not-broken _ (passes tapePlace (lit< tt))
+  unfolding submissionRules rulesFor rulesOf swapRules findingOf
+  tape-test = not-broken _ (rule-passed tapeShort)
 
   pub row-test : hasWrongRow l (swapOf m) ≡ false
-  unfolding submissionRules rulesFor rulesOf swapRules
-  row-test = not-broken _ (passes rowPlace (lit< tt))
+  unfolding submissionRules rulesFor rulesOf swapRules findingOf
+  row-test = not-broken _ (rule-passed rowWrong)
 
   pub status-test : eqb (nextStatus a (swapStatus l (swapOf m))) noStep ≡ false
-  unfolding submissionRules rulesFor rulesOf swapRules isNotAdmitted
-  status-test = not-broken _ (passes statusPlace (lit< tt))
+  unfolding submissionRules rulesFor rulesOf swapRules findingOf isNotAdmitted
+  status-test = not-broken _ (rule-passed notAdmitted)
 
   pub time-test : hasOtherTime a l m ≡ false
-  unfolding submissionRules rulesFor rulesOf swapRules
-  time-test = not-broken _ (passes timePlace (lit< tt))
+  unfolding submissionRules rulesFor rulesOf swapRules findingOf
+  time-test = not-broken _ (rule-passed otherTime)
 
   -- the rules of the message alone
-  pub message-passes : (i : ℕ) → i < length (rulesFor (Value a) (limits .longest) m) → findingAt (rulesFor (Value a) (limits .longest) m) i ≡ passed
-  unfolding submissionRules
-  message-passes i h =
-      sym (ap (λ r. r .1) (List·getD-append (rulesFor (Value a) (limits .longest) m) (swapRules a l m) noRule i h))
-      ∙ passes (suc (suc i)) (omega (arith, h, length-append (rulesFor (Value a) (limits .longest) m) (swapRules a l m)))
+  pub message-passes : AllPassed (rulesFor (Value a) (limits .longest) m)
+  unfolding submissionRules rulesFor fromRule
+  message-passes = passed-front (rulesFor (Value a) (limits .longest) m) (swapRules a l m) (passed-from layoutWrong (submissionRules limits (Value a) l t m) passes)
 
   pub room-test : both (isNew a) (eqb (rowsInUse l) (capacityIn l)) ≡ false
-  unfolding submissionRules rulesFor rulesOf swapRules findsFull
-  room-test = not-broken _ (passes roomPlace (lit< tt))
+  unfolding submissionRules rulesFor rulesOf swapRules findingOf findsFull
+  room-test = not-broken _ (rule-passed ledgerFull)
 
   pub spent-test : both (writesLine a) (eqb (nextIdentifier l) identifierLimit) ≡ false
-  unfolding submissionRules rulesFor rulesOf swapRules findsSpent
-  spent-test = not-broken _ (passes spentPlace (lit< tt))
+  unfolding submissionRules rulesFor rulesOf swapRules findingOf findsSpent
+  spent-test = not-broken _ (rule-passed identifiersSpent)
 
   there : isThere uti m ≡ true
-  unfolding submissionRules rulesFor rulesOf swapRules
-  there = not-not _ (lowest-passed (atFault Needed a m) (passes (messagePlace neededAt) (lit< tt)) uti (lit≤ tt) (lit≤ tt))
+  unfolding submissionRules rulesFor rulesOf swapRules findingOf is-needed elementOf
+  there = not-not _ (lowest-passed (atFault Needed a m) (rule-passed neededMissing) uti (lit≤ tt) (lit≤ tt))
 
   formed : hasForm uti (swapOf m) ≡ true
-  unfolding submissionRules rulesFor rulesOf swapRules
+  unfolding submissionRules rulesFor rulesOf swapRules findingOf
   formed =
-      let f : both (isThere uti m) (not (hasForm uti (swapOf m))) ≡ false = lowest-passed (atFault Formed a m) (passes (messagePlace formedAt) (lit< tt)) uti (lit≤ tt) (lit≤ tt) in
+      let f : both (isThere uti m) (not (hasForm uti (swapOf m))) ≡ false = lowest-passed (atFault Formed a m) (rule-passed formBroken) uti (lit≤ tt) (lit≤ tt) in
       not-not _ (both-false (isThere uti m) (not (hasForm uti (swapOf m))) f there)
 
   row-right : isKnown l (swapOf m) ≡ true → rowRight (nextIdentifier l) (swapRow l (swapOf m)) ≡ true

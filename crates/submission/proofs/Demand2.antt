@@ -28,7 +28,7 @@ use Rattle.actions.proofs.KindLaws.{is-newt}
 use Rattle.elements.specs.Codes.{uti, executionTime}
 use Rattle.elements.specs.Forms.{hasForm}
 use Rattle.rules.specs.Verdicts.{formBroken}
-use Rattle.rules.specs.Findings.{Finding, passed, broken, brokenIf, firstBroken, numberAt, findingAt}
+use Rattle.rules.specs.Findings.{passed, broken, Rule, test, naming, firstBroken, AllPassed}
 use Rattle.rules.specs.Rules.{rulesFor, rulesOf, verdict}
 use Rattle.rules.proofs.FindingLaws.{broken-first, first-broken, none-broken, passed-then}
 use Rattle.rules.proofs.VerdictLaws as message
@@ -57,14 +57,14 @@ use Rattle.submission.proofs.Demand1.{element-is}
 
 pub verdict-exactly : Verdict-exactly
 unfolding verdictOn
-verdict-exactly limits l t m i e h =
-    let rs : List (ℕ × Finding) = rulesOn limits l t m in (
+verdict-exactly limits l t m n e some =
+    let rs : List Rule = rulesOn limits l t m in (
       λ p.
-          let n : verdictOn limits l t m .0 ≡ numberAt rs i = sym (verdict-is limits l t m) ∙ p .0 in
+          let v : verdictOn limits l t m .0 ≡ n = sym (verdict-is limits l t m) ∙ p .0 in
           let c : verdictOn limits l t m .1 ≡ e = sym (element-is limits l t m) ∙ p .1 in
-          broken-first rs i e (numbers-differ limits l t m (actionIn m)) h (ap₂ {C = ℕ × ℕ} (λ x y. (x, y)) n c),
+          broken-first rs n e (numbers-differ limits l t m (actionIn m)) some (ap₂ {C = ℕ × ℕ} (λ x y. (x, y)) v c),
       λ b.
-          let v : verdictOn limits l t m ≡ (numberAt rs i, e) = first-broken rs i e h b in
+          let v : verdictOn limits l t m ≡ (n, e) = first-broken rs n e b in
           (verdict-is limits l t m ∙ ap (λ x. x .0) v, element-is limits l t m ∙ ap (λ x. x .1) v),
     )
 
@@ -152,9 +152,9 @@ module _ (limits : Limits) (l t m : List ℕ) where
     unfolding isNotAdmitted
     admitted = ne-eqb _ _ (s .step)
 
-    message-right : (i : ℕ) → i < length (rulesFor (Value (s .action)) (limits .longest) m) → findingAt (rulesFor (Value (s .action)) (limits .longest) m) i ≡ passed
+    message-right : AllPassed (rulesFor (Value (s .action)) (limits .longest) m)
     message-right =
-        subst (λ (r : Checked). (i : ℕ) → i < length (rulesFor r (limits .longest) m) → findingAt (rulesFor r (limits .longest) m) i ≡ passed) (s .reads)
+        subst (λ (r : Checked). AllPassed (rulesFor r (limits .longest) m)) (s .reads)
         (message.accepted-exactly (limits .longest) m .0 (ap (λ v. v .0) (s .message)))
 
     front-passed : firstBroken (submissionRules limits (Value (s .action)) l t m) ≡ firstBroken (rulesFor (Value (s .action)) (limits .longest) m ++ swapRules (s .action) l m)
@@ -272,7 +272,7 @@ pub opening-exactly : Opening-exactly
 unfolding opened openingVerdict openingRules firstBroken
 opening-exactly limits caps l = by (ltb (length l) shortestLedger) refl (areCaps caps) refl
   where
-    by : (a : Bool) → ltb (length l) shortestLedger ≡ a → (b : Bool) → areCaps caps ≡ b → OpeningExactly caps l (firstBroken ((ledgerShort, brokenIf a) ∷ (capWrong, brokenIf (not b)) ∷ []) .0)
+    by : (a : Bool) → ltb (length l) shortestLedger ≡ a → (b : Bool) → areCaps caps ≡ b → OpeningExactly caps l (firstBroken (test ledgerShort a ∷ test capWrong (not b) ∷ []) .0)
     by true e b f =
         let short : length l < shortestLedger = ltb-true _ _ e in
         record {
@@ -314,7 +314,7 @@ question-exactly limits l u =
     (by (headerRight (limits .largest) l) refl (hasForm uti u) refl (hasWrongRow l u) refl, λ v. rw (eq-eqb _ 0 v) (refl, refl))
   where
     by : (a : Bool) → headerRight (limits .largest) l ≡ a → (b : Bool) → hasForm uti u ≡ b → (c : Bool) → hasWrongRow l u ≡ c
-        → QuestionExactly limits l u (firstBroken ((ledgerWrong, brokenIf (not a)) ∷ (formBroken, choose b passed (broken uti)) ∷ (rowWrong, brokenIf c) ∷ []) .0)
+        → QuestionExactly limits l u (firstBroken (test ledgerWrong (not a) ∷ naming formBroken (choose b passed (broken uti)) ∷ test rowWrong c ∷ []) .0)
     by false e b f c g =
         record {
           ledger = (λ z. e, λ p. refl);

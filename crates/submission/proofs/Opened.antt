@@ -5,17 +5,17 @@ use mathlib.Core.Path.{_≡_, refl, ap, _∙_}
 use mathlib.Core.List.{List, []}
 use native.Mathlib.Omega.{arith}
 use lib.ListN.{length}
-use lib.Dec.{lit<}
 use borrow.Author.Tests.{ltb-true, ltb-false, eq-eqb}
 use Rattle.octets.specs.Part.{splice}
 use Rattle.octets.proofs.ChoiceLaws.{not-not}
-use Rattle.rules.specs.Findings.{passed, findingAt}
-use Rattle.rules.proofs.FindingLaws.{not-broken, unused, distinct, all-passed}
+use Rattle.rules.specs.Findings.{findingOf, AllPassed}
+use Rattle.rules.proofs.FindingLaws.{not-broken, unused, distinct, all-passed, is-passed}
 use Rattle.ledger.specs.declared.header.Caps.{Caps}
 use Rattle.ledger.specs.Layout.{u32, rowsAt, headerSize, shortestLedger}
 use Rattle.ledger.specs.Header.{rowsInUse, nextIdentifier, capsIn, areCaps, capacityFor, headerRight, newHeader}
 use Rattle.ledger.specs.Rows.{placeOf, isKnown}
 use Rattle.ledger.proofs.NewHeader as header
+use Rattle.submission.specs.Verdicts.{ledgerShort, capWrong}
 use Rattle.submission.specs.Opening.{Limits, openingRules, openingVerdict, opened}
 use Rattle.submission.specs.Demand3.{start}
 use Rattle.submission.proofs.Told.{Holds}
@@ -25,17 +25,17 @@ unfolding openingRules unused distinct
 opening-differ caps l = refl
 
 module _ (limits : Limits) (caps : Caps) (l : List ℕ) (v : opened limits caps l .verdict ≡ 0) where
-  passes : (i : ℕ) → i < length (openingRules caps l) → findingAt (openingRules caps l) i ≡ passed
+  passes : AllPassed (openingRules caps l)
   unfolding opened openingVerdict
   passes = all-passed (openingRules caps l) (opening-differ caps l) v
 
   pub long-enough : shortestLedger ≤ length l
-  unfolding openingRules
-  long-enough = ltb-false _ _ (not-broken _ (passes 0 (lit< tt)))
+  unfolding openingRules findingOf
+  long-enough = ltb-false _ _ (not-broken _ (is-passed ledgerShort (openingRules caps l) passes))
 
   pub caps-right : areCaps caps ≡ true
-  unfolding openingRules
-  caps-right = not-not _ (not-broken _ (passes 1 (lit< tt)))
+  unfolding openingRules findingOf
+  caps-right = not-not _ (not-broken _ (is-passed capWrong (openingRules caps l) passes))
 
   room : headerSize ≤ length l
   room = omega (arith, long-enough)

@@ -1,6 +1,7 @@
 -- Document 01, 'Verdict numbers', demand 1: any bytes in message, ledger or tape buffer get an answer; a refusal has its number, names the element where one is at fault, and changes no
 -- byte of ledger or tape buffer. That any bytes get an answer lies in the definitions: they are functions of lists of any length.
-use Prim.Native.Nat.{ℕ, _≤_}
+use Prim.Native.Nat.{ℕ}
+use mathlib.Core.Bool.{true}
 use mathlib.Core.Path.{_≡_}
 use mathlib.Core.List.{List}
 use Rattle.actions.specs.declared.Action.{Action}
@@ -9,10 +10,10 @@ use Rattle.actions.specs.Actions.{actionCode}
 use Rattle.elements.specs.Codes.{uti}
 use Rattle.rules.specs.declared.checks.Check.{Check}
 use Rattle.rules.specs.Verdicts.{noAction, formBroken}
-use Rattle.rules.specs.Findings.{LowestAtFault}
+use Rattle.rules.specs.Findings.{isOneOf, LowestAtFault}
 use Rattle.rules.specs.Rules.{atFault, numberOf}
 use Rattle.ledger.specs.declared.header.Caps.{Caps}
-use Rattle.submission.specs.Verdicts.{ledgerShort, capWrong, ledgerWrong, identifiersSpent}
+use Rattle.submission.specs.Verdicts.{openingNumbers, submissionNumbers, questionNumbers}
 use Rattle.submission.specs.Opening.{Limits, opened}
 use Rattle.submission.specs.Submission.{Submitted, submitted, actionIn}
 use Rattle.submission.specs.Status.{Asked, asked}
@@ -31,8 +32,7 @@ pub record Names (s : Submitted) (m : List ℕ) : Type 0 where
 
 -- a refusal: its number, and nothing is changed or answered beside it
 pub record Refusal (s : Submitted) (l t : List ℕ) : Type 0 where
-  pub least : ledgerWrong ≤ s .verdict
-  pub most : s .verdict ≤ identifiersSpent
+  pub number : isOneOf submissionNumbers (s .verdict) ≡ true
   pub identifier : s .identifier ≡ 0
   pub ledger : s .ledger ≡ l
   pub tape : s .tape ≡ t
@@ -42,17 +42,18 @@ Submission-answers =
     (limits : Limits) (l t m : List ℕ)
     → Names (submitted limits l t m) m × ((submitted limits l t m .verdict ≡ 0 → ⊥) → Refusal (submitted limits l t m) l t)
 
--- a refused opening is 1 or 2 and writes nothing
+-- a refused opening has its number and writes nothing
 abbrev pub Opening-answers : Type 0
 Opening-answers =
     (limits : Limits) (caps : Caps) (l : List ℕ)
     → (opened limits caps l .verdict ≡ 0 → ⊥)
-    → (ledgerShort ≤ opened limits caps l .verdict) × (opened limits caps l .verdict ≤ capWrong) × (opened limits caps l .ledger ≡ l)
+    → (isOneOf openingNumbers (opened limits caps l .verdict) ≡ true) × (opened limits caps l .ledger ≡ l)
 
--- the status question: 9 names 1; beside a refusal, status and identifier are 0
+-- the status question: 9 names 1; a refusal has its number, and status and identifier beside it are 0
 pub record Question (a : Asked) : Type 0 where
   pub named : a .verdict ≡ formBroken → a .element ≡ uti
   pub nothing : (a .verdict ≡ formBroken → ⊥) → a .element ≡ 0
+  pub number : (a .verdict ≡ 0 → ⊥) → isOneOf questionNumbers (a .verdict) ≡ true
   pub refused : (a .verdict ≡ 0 → ⊥) → (a .status ≡ 0) × (a .identifier ≡ 0)
 
 abbrev pub Question-answers : Type 0

@@ -3,7 +3,7 @@ use Prim.Native.Nat.{ℕ, _+_, _-_, _^_, _<_, _≤_}
 use mathlib.Core.Bool.{true, false}
 use mathlib.Core.Path.{_≡_}
 use mathlib.Core.Logic.{_↔_}
-use mathlib.Core.List.{List, [], _∷_, map}
+use mathlib.Core.List.{List, map}
 use lib.ListN.{length, getD, drop}
 use Rattle.octets.specs.Choice.{choose}
 use Rattle.octets.specs.Part.{part}
@@ -16,14 +16,14 @@ use Rattle.actions.specs.Statuses.{live, ported, noStep, nextStatus, repeatsTim
 use Rattle.elements.specs.Codes.{uti, executionTime}
 use Rattle.elements.specs.Forms.{hasForm}
 use Rattle.rules.specs.Verdicts.{formBroken}
-use Rattle.rules.specs.Findings.{numberAt, FirstBroken}
+use Rattle.rules.specs.Findings.{ruleNumber, FirstBroken}
 use Rattle.rules.specs.Rules.{verdict}
 use Rattle.ledger.specs.declared.header.Caps.{Caps}
 use Rattle.ledger.specs.Layout.{u32, u64, rowsAt, nextAt, statusAt, lengthAt, identifierAt, tailAt, tailSize, headerSize, rowSize, rowStart, shortestLedger, lineSize, identifierLimit}
 use Rattle.ledger.specs.Header.{rowsInUse, nextIdentifier, capacityIn, capsIn, areCaps, capacityFor, headerRight, RightHeader, headerFields}
 use Rattle.ledger.specs.Rows.{rowAt, statusOf, identifierOf, storedTerms, storedTime, isKnown, swapRow, swapStatus, swapIdentifier, rowFields}
 use Rattle.ledger.specs.Line.{lineFields}
-use Rattle.submission.specs.Verdicts.{ledgerShort, capWrong, ledgerWrong, rowWrong}
+use Rattle.submission.specs.Verdicts.{ledgerShort, capWrong, ledgerWrong, rowWrong, submissionNumbers}
 use Rattle.submission.specs.Opening.{Limits, opened}
 use Rattle.submission.specs.Status.{asked}
 use Rattle.submission.specs.Submission.{Submitted, submitted, swapOf, actionIn, hasWrongRow, rulesOn, submissionRules, maskedTerms, termsFor, placeFor}
@@ -33,15 +33,13 @@ use Rattle.submission.specs.Submission.{Submitted, submitted, swapOf, ac
 -- verdict and element are those of a rule exactly where the rule is broken and no earlier one is
 abbrev pub Verdict-exactly : Type 0
 Verdict-exactly =
-    (limits : Limits) (l t m : List ℕ) (i e : ℕ)
-    → i < length (rulesOn limits l t m)
-    → ((submitted limits l t m .verdict ≡ numberAt (rulesOn limits l t m) i) × (submitted limits l t m .element ≡ e)) ↔ FirstBroken (rulesOn limits l t m) i e
+    (limits : Limits) (l t m : List ℕ) (n e : ℕ)
+    → 0 < n
+    → ((submitted limits l t m .verdict ≡ n) × (submitted limits l t m .element ≡ e)) ↔ FirstBroken (rulesOn limits l t m) n e
 
--- the rules of a message with an action are 3 to 18, in this order
+-- the rules of a message with an action have these numbers, in this order
 abbrev pub Checking-order : Type 0
-Checking-order =
-    (limits : Limits) (a : Action) (l t m : List ℕ)
-    → map (λ r. r .0) (submissionRules limits (Value a) l t m) ≡ 3 ∷ 4 ∷ 5 ∷ 6 ∷ 7 ∷ 8 ∷ 9 ∷ 10 ∷ 11 ∷ 12 ∷ 13 ∷ 14 ∷ 15 ∷ 16 ∷ 17 ∷ 18 ∷ []
+Checking-order = (limits : Limits) (a : Action) (l t m : List ℕ) → map ruleNumber (submissionRules limits (Value a) l t m) ≡ submissionNumbers
 
 -- a row that 14 lets pass
 pub record RightRow (next : ℕ) (r : List ℕ) : Type 0 where

@@ -6,7 +6,7 @@ use lib.ListN.{length}
 use lib.Dec.{eqb, ltb}
 use Rattle.octets.specs.Choice.{choose}
 use Rattle.octets.specs.Part.{splice}
-use Rattle.rules.specs.Findings.{Finding, brokenIf, firstBroken}
+use Rattle.rules.specs.Findings.{Rule, test, firstBroken}
 use Rattle.ledger.specs.declared.header.Caps.{Caps}
 use Rattle.ledger.specs.Layout.{shortestLedger}
 use Rattle.ledger.specs.Header.{areCaps, capacityFor, newHeader}
@@ -26,10 +26,10 @@ pub record Opened : Type 0 where
   pub verdict : ℕ
   pub ledger : List ℕ
 
-unfoldable pub openingRules : Caps → List ℕ → List (ℕ × Finding)
+unfoldable pub openingRules : Caps → List ℕ → List Rule
 openingRules caps l =
-    (ledgerShort, brokenIf (ltb (length l) shortestLedger))
-    ∷ (capWrong, brokenIf (not (areCaps caps)))
+    test ledgerShort (ltb (length l) shortestLedger)
+    ∷ test capWrong (not (areCaps caps))
     ∷ []
 
 unfoldable pub openingVerdict : Caps → List ℕ → ℕ

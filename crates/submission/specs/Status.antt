@@ -7,7 +7,7 @@ use Rattle.octets.specs.Choice.{choose}
 use Rattle.elements.specs.Codes.{uti}
 use Rattle.elements.specs.Forms.{hasForm}
 use Rattle.rules.specs.Verdicts.{formBroken}
-use Rattle.rules.specs.Findings.{Finding, passed, broken, brokenIf, firstBroken}
+use Rattle.rules.specs.Findings.{passed, broken, Rule, test, naming, firstBroken}
 use Rattle.ledger.specs.Header.{headerRight}
 use Rattle.ledger.specs.Rows.{swapStatus, swapIdentifier}
 use Rattle.submission.specs.Verdicts.{ledgerWrong, rowWrong}
@@ -22,11 +22,11 @@ pub record Asked : Type 0 where
   pub identifier : ℕ
 
 -- 3, then 9 with element 1, then 14
-unfoldable pub statusRules : Limits → List ℕ → List ℕ → List (ℕ × Finding)
+unfoldable pub statusRules : Limits → List ℕ → List ℕ → List Rule
 statusRules limits l u =
-    (ledgerWrong, brokenIf (not (headerRight (limits .largest) l)))
-    ∷ (formBroken, choose (hasForm uti u) passed (broken uti))
-    ∷ (rowWrong, brokenIf (hasWrongRow l u))
+    test ledgerWrong (not (headerRight (limits .largest) l))
+    ∷ naming formBroken (choose (hasForm uti u) passed (broken uti))
+    ∷ test rowWrong (hasWrongRow l u)
     ∷ []
 
 -- beside a refusal, status and identifier are 0; else the status, 0 for an unknown swap, and the last identifier, 0 if unknown

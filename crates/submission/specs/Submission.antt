@@ -12,12 +12,13 @@ use Rattle.message.specs.Values.{value}
 use Rattle.actions.specs.declared.Action.{Action}
 use Rattle.actions.specs.declared.Checked.{Checked}
 use Rattle.actions.specs.declared.Checked.the-variants.{Fault, Value}
-use Rattle.actions.specs.Actions.{actionCode, actionOf, isFull, isNew, writesLine}
+use Rattle.actions.specs.Actions.{isFull, isNew, writesLine}
 use Rattle.actions.specs.Statuses.{live, ported, noStep, nextStatus, repeatsTime}
 use Rattle.elements.specs.Codes.{uti, executionTime, assetClass}
 use Rattle.terms.specs.Terms.{termsOf}
-use Rattle.rules.specs.Findings.{Finding, brokenIf, firstBroken}
+use Rattle.rules.specs.Findings.{Rule, test, firstBroken}
 use Rattle.rules.specs.Rules.{rulesFor}
+pub use Rattle.rules.specs.Rules.{actionIn}
 use Rattle.ledger.specs.declared.header.Caps.{Caps}
 use Rattle.ledger.specs.Layout.{rowStart, lineSize, identifierLimit}
 use Rattle.ledger.specs.Header.{rowsInUse, nextIdentifier, capacityIn, capsIn, capFor, headerRight}
@@ -29,10 +30,6 @@ use Rattle.submission.specs.Opening.{Limits}
 -- the swap a message names is its value of code 1
 abbrev pub swapOf : List ℕ → List ℕ
 swapOf m = value uti m
-
--- what the value of the action's element says
-abbrev pub actionIn : List ℕ → Checked
-actionIn m = actionOf (value actionCode m)
 
 -- ---- rules 14 to 18
 
@@ -60,30 +57,30 @@ findsFull a l = both (isNew a) (eqb (rowsInUse l) (capacityIn l))
 unfoldable pub findsSpent : Action → List ℕ → Bool
 findsSpent a l = both (writesLine a) (eqb (nextIdentifier l) identifierLimit)
 
-unfoldable pub swapRules : Action → List ℕ → List ℕ → List (ℕ × Finding)
+unfoldable pub swapRules : Action → List ℕ → List ℕ → List Rule
 swapRules a l m =
-    (rowWrong, brokenIf (hasWrongRow l (swapOf m)))
-    ∷ (notAdmitted, brokenIf (isNotAdmitted a l (swapOf m)))
-    ∷ (otherTime, brokenIf (hasOtherTime a l m))
-    ∷ (ledgerFull, brokenIf (findsFull a l))
-    ∷ (identifiersSpent, brokenIf (findsSpent a l))
+    test rowWrong (hasWrongRow l (swapOf m))
+    ∷ test notAdmitted (isNotAdmitted a l (swapOf m))
+    ∷ test otherTime (hasOtherTime a l m)
+    ∷ test ledgerFull (findsFull a l)
+    ∷ test identifiersSpent (findsSpent a l)
     ∷ []
 
 -- ---- the rules of a submission in checking order
 
 -- where 6 is broken there is no action, and nothing is judged after it
-abbrev pub afterRules : Checked → List ℕ → List ℕ → List (ℕ × Finding)
+abbrev pub afterRules : Checked → List ℕ → List ℕ → List Rule
 afterRules (Fault code) l m = []
 afterRules (Value a) l m = swapRules a l m
 
 -- 3 and 4, then the rules of the message alone, 5 to 13, then 14 to 18
-unfoldable pub submissionRules : Limits → Checked → List ℕ → List ℕ → List ℕ → List (ℕ × Finding)
+unfoldable pub submissionRules : Limits → Checked → List ℕ → List ℕ → List ℕ → List Rule
 submissionRules limits action l t m =
-    (ledgerWrong, brokenIf (not (headerRight (limits .largest) l)))
-    ∷ (tapeShort, brokenIf (ltb (length t) lineSize))
+    test ledgerWrong (not (headerRight (limits .largest) l))
+    ∷ test tapeShort (ltb (length t) lineSize)
     ∷ (rulesFor action (limits .longest) m ++ afterRules action l m)
 
-abbrev pub rulesOn : Limits → List ℕ → List ℕ → List ℕ → List (ℕ × Finding)
+abbrev pub rulesOn : Limits → List ℕ → List ℕ → List ℕ → List Rule
 rulesOn limits l t m = submissionRules limits (actionIn m) l t m
 
 -- verdict and element

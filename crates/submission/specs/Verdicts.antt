@@ -1,5 +1,6 @@
 -- Document 01, 'Verdict numbers': those of opening, and those of a submission that the rules of a message alone (crate rules) have not.
 use Prim.Native.Nat.{ℕ}
+use mathlib.Core.List.{List, [], _∷_}
 
 -- The ledger buffer is shorter than 224 bytes.
 abbrev pub ledgerShort : ℕ
@@ -36,3 +37,14 @@ ledgerFull = 17
 -- A line is due and the next identifier is 1,000,000,000,000.
 abbrev pub identifiersSpent : ℕ
 identifiersSpent = 18
+
+-- ---- the numbers that each operation answers beside 0, in checking order
+
+abbrev pub openingNumbers : List ℕ
+openingNumbers = 1 ∷ 2 ∷ []
+
+abbrev pub submissionNumbers : List ℕ
+submissionNumbers = 3 ∷ 4 ∷ 5 ∷ 6 ∷ 7 ∷ 8 ∷ 9 ∷ 10 ∷ 11 ∷ 12 ∷ 13 ∷ 14 ∷ 15 ∷ 16 ∷ 17 ∷ 18 ∷ []
+
+abbrev pub questionNumbers : List ℕ
+questionNumbers = 3 ∷ 9 ∷ 14 ∷ []

@@ -1,15 +1,30 @@
 -- Document 01, 'Elements', column 'Public': the elements that the masked terms show as they are.
-use Prim.Native.Nat.{ℕ, _<_}
+use Prim.Native.Nat.{ℕ}
+use mathlib.Core.Bool.{Bool, true, false}
 use mathlib.Core.Path.{_≡_}
-use mathlib.Core.List.{List, [], _∷_}
-use lib.ListN.{length, getD}
+use mathlib.Core.List.{List}
+use Rattle.octets.specs.Choice.{both}
 use Rattle.message.specs.Values.{value}
-use Rattle.elements.specs.Codes.{executionTime, effectiveDate, expirationDate, cleared, nonStandardizedTerm, blockElection, largeNotionalElection, packageIndicator, packagePrice, priceNotation, priceCurrency, notionalCurrency, settlementLocation, assetClass}
+use Rattle.elements.specs.declared.table.Kinds.{Kinds}
+use Rattle.elements.specs.declared.table.Kinds.the-variants.{None, All, Full}
+use Rattle.elements.specs.declared.table.Public.{Public}
+use Rattle.elements.specs.declared.table.Public.the-variants.{Hidden, Masked, Shown}
+use Rattle.elements.specs.Table.{elementOf}
 
--- those that are public from code 6 on; the notional amount is masked
-abbrev pub publicTerms : List ℕ
-publicTerms = executionTime ∷ effectiveDate ∷ expirationDate ∷ cleared ∷ nonStandardizedTerm ∷ blockElection ∷ largeNotionalElection ∷ packageIndicator ∷ packagePrice ∷ priceNotation ∷ priceCurrency ∷ notionalCurrency ∷ settlementLocation ∷ assetClass ∷ []
+abbrev pub isFullOnly : Kinds → Bool
+isFullOnly None = false
+isFullOnly All = false
+isFullOnly Full = true
 
--- two messages have the same values of some elements
-abbrev pub Agree : List ℕ → List ℕ → List ℕ → Type 0
-Agree codes m₁ m₂ = (k : ℕ) → k < length codes → value (getD codes k 0) m₁ ≡ value (getD codes k 0) m₂
+abbrev pub isShown : Public → Bool
+isShown Hidden = false
+isShown Masked = false
+isShown Shown = true
+
+-- an element of full messages that is public; the notional amount is masked
+unfoldable pub isPublicTerm : ℕ → Bool
+isPublicTerm code = both (isFullOnly (elementOf code .taken)) (isShown (elementOf code .public))
+
+-- two messages have the same values of these elements
+abbrev pub Agree : List ℕ → List ℕ → Type 0
+Agree m₁ m₂ = (code : ℕ) → isPublicTerm code ≡ true → value code m₁ ≡ value code m₂

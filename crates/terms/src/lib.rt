@@ -6,7 +6,7 @@ ghost use Rattle.octets.specs.Part.{splice};
 ghost use Rattle.octets.specs.Field.{field};
 ghost use Rattle.octets.specs.Fields.{written};
 ghost use Rattle.elements.specs.Codes.{packagePrice};
-ghost use Rattle.elements.specs.Conditions.{kept};
+ghost use Rattle.elements.specs.Conditions.{factsOf, kept};
 ghost use Rattle.notional.specs.Masking.{largestCap};
 ghost use Rattle.terms.specs.Terms.{termsStart, termsSize, shownTruth, priceText, plusText, dateFields, truthFields, priceFields, notionalFields, termsOf};
 use elements::ASSET_CLASS;
@@ -15,6 +15,7 @@ use elements::CLEARED;
 use elements::EFFECTIVE_DATE;
 use elements::EXECUTION_TIME;
 use elements::EXPIRATION_DATE;
+use elements::Facts;
 use elements::LARGE_NOTIONAL_ELECTION;
 use elements::NON_STANDARDIZED_TERM;
 use elements::NOTIONAL_AMOUNT;
@@ -80,19 +81,21 @@ const LOCATION_AT: usize = NOTIONAL_CURRENCY_AT + CURRENCY_SIZE;
 pub const SIZE: usize = LOCATION_AT + LOCATION_SIZE;
 
 // Writes the value of an element; spaces where it is missing or left out.
-fn text_at(dst: &mut [u8], at: usize, n: usize, m: &[u8], code: u16)
+fn text_at(dst: &mut [u8], at: usize, n: usize, m: &[u8], facts: Facts, code: u16)
     requires { ⌜ at + n ≤ length (now dst) ⌝ }
+    requires { ⌜ facts ≡ factsOf (now m) ⌝ }
     ensures { λ _. ⌜ now (dst .exit) ≡ splice (now (dst .entry)) at (field n (kept code (now (m .entry)))) ⌝ }
 {
-    field_at(dst, at, n, elements::kept(m, code));
+    field_at(dst, at, n, elements::kept(m, facts, code));
 }
 
 // Writes T or F for a truth; a space where it is missing or left out.
-fn truth_at(dst: &mut [u8], at: usize, m: &[u8], code: u16)
+fn truth_at(dst: &mut [u8], at: usize, m: &[u8], facts: Facts, code: u16)
     requires { ⌜ at + 1 ≤ length (now dst) ⌝ }
+    requires { ⌜ facts ≡ factsOf (now m) ⌝ }
     ensures { λ _. ⌜ now (dst .exit) ≡ splice (now (dst .entry)) at (field 1 (shownTruth (kept code (now (m .entry))))) ⌝ }
 {
-    let v = elements::kept(m, code);
+    let v = elements::kept(m, facts, code);
     if v.len() == 0 {
         field_at(dst, at, MARK_SIZE, v);
         return;
@@ -105,11 +108,12 @@ fn truth_at(dst: &mut [u8], at: usize, m: &[u8], code: u16)
 }
 
 // Writes the package price; spaces where it is missing or left out.
-fn package_price_at(dst: &mut [u8], at: usize, n: usize, m: &[u8])
+fn package_price_at(dst: &mut [u8], at: usize, n: usize, m: &[u8], facts: Facts)
     requires { ⌜ at + n ≤ length (now dst) ⌝ }
+    requires { ⌜ facts ≡ factsOf (now m) ⌝ }
     ensures { λ _. ⌜ now (dst .exit) ≡ splice (now (dst .entry)) at (field n (priceText (kept packagePrice (now (m .entry))))) ⌝ }
 {
-    let v = elements::kept(m, PACKAGE_PRICE);
+    let v = elements::kept(m, facts, PACKAGE_PRICE);
     if v.len() == 0 {
         field_at(dst, at, n, v);
         return;
@@ -130,44 +134,55 @@ fn plus_at(dst: &mut [u8], at: usize, plus: bool)
 }
 
 // Execution time, effective and expiration date, Cleared.
-fn write_dates(dst: &mut [u8], m: &[u8])
+fn write_dates(dst: &mut [u8], m: &[u8], facts: Facts)
     requires { ⌜ length (now dst) ≡ termsSize ⌝ }
+    requires { ⌜ facts ≡ factsOf (now m) ⌝ }
     ensures { λ _. ⌜ now (dst .exit) ≡ written termsStart (dateFields (now (m .entry))) (now (dst .entry)) ⌝ }
 {
-    text_at(dst, EXECUTION_AT, TIME_SIZE, m, EXECUTION_TIME);
-    text_at(dst, EFFECTIVE_AT, DATE_SIZE, m, EFFECTIVE_DATE);
-    text_at(dst, EXPIRATION_AT, DATE_SIZE, m, EXPIRATION_DATE);
-    text_at(dst, CLEARED_AT, MARK_SIZE, m, CLEARED);
+    text_at(dst, EXECUTION_AT, TIME_SIZE, m, facts, EXECUTION_TIME);
+    text_at(dst, EFFECTIVE_AT, DATE_SIZE, m, facts, EFFECTIVE_DATE);
+    text_at(dst, EXPIRATION_AT, DATE_SIZE, m, facts, EXPIRATION_DATE);
+    text_at(dst, CLEARED_AT, MARK_SIZE, m, facts, CLEARED);
 }
 
 // Non-standardized term, block and large notional election, package.
-fn write_truths(dst: &mut [u8], m: &[u8])
+fn write_truths(dst: &mut [u8], m: &[u8], facts: Facts)
     requires { ⌜ length (now dst) ≡ termsSize ⌝ }
+    requires { ⌜ facts ≡ factsOf (now m) ⌝ }
     ensures { λ _. ⌜ now (dst .exit) ≡ written termsStart (truthFields (now (m .entry))) (now (dst .entry)) ⌝ }
 {
-    truth_at(dst, NON_STANDARDIZED_AT, m, NON_STANDARDIZED_TERM);
-    truth_at(dst, BLOCK_AT, m, BLOCK_ELECTION);
-    truth_at(dst, LARGE_AT, m, LARGE_NOTIONAL_ELECTION);
-    truth_at(dst, PACKAGE_AT, m, PACKAGE_INDICATOR);
+    truth_at(dst, NON_STANDARDIZED_AT, m, facts, NON_STANDARDIZED_TERM);
+    truth_at(dst, BLOCK_AT, m, facts, BLOCK_ELECTION);
+    truth_at(dst, LARGE_AT, m, facts, LARGE_NOTIONAL_ELECTION);
+    truth_at(dst, PACKAGE_AT, m, facts, PACKAGE_INDICATOR);
 }
 
 // Price, notation and price currency.
-fn write_package(dst: &mut [u8], m: &[u8])
+fn write_package(dst: &mut [u8], m: &[u8], facts: Facts)
     requires { ⌜ length (now dst) ≡ termsSize ⌝ }
+    requires { ⌜ facts ≡ factsOf (now m) ⌝ }
     ensures { λ _. ⌜ now (dst .exit) ≡ written termsStart (priceFields (now (m .entry))) (now (dst .entry)) ⌝ }
 {
-    package_price_at(dst, PRICE_AT, PRICE_SIZE, m);
-    text_at(dst, NOTATION_AT, MARK_SIZE, m, PRICE_NOTATION);
-    text_at(dst, PRICE_CURRENCY_AT, CURRENCY_SIZE, m, PRICE_CURRENCY);
+    package_price_at(dst, PRICE_AT, PRICE_SIZE, m, facts);
+    text_at(dst, NOTATION_AT, MARK_SIZE, m, facts, PRICE_NOTATION);
+    text_at(
+        dst,
+        PRICE_CURRENCY_AT,
+        CURRENCY_SIZE,
+        m,
+        facts,
+        PRICE_CURRENCY,
+    );
 }
 
 // Asset class, notional with its plus sign, notional currency, location.
-fn write_notional(dst: &mut [u8], m: &[u8], cap: u64)
+fn write_notional(dst: &mut [u8], m: &[u8], facts: Facts, cap: u64)
     requires { ⌜ (length (now dst) ≡ termsSize) × (cap ≤ largestCap) ⌝ }
+    requires { ⌜ facts ≡ factsOf (now m) ⌝ }
     ensures { λ _. ⌜ now (dst .exit) ≡ written termsStart (notionalFields cap (now (m .entry))) (now (dst .entry)) ⌝ }
 {
-    let masked = notional::mask(elements::kept(m, NOTIONAL_AMOUNT), cap);
-    text_at(dst, CLASS_AT, CLASS_SIZE, m, ASSET_CLASS);
+    let masked = notional::mask(elements::kept(m, facts, NOTIONAL_AMOUNT), cap);
+    text_at(dst, CLASS_AT, CLASS_SIZE, m, facts, ASSET_CLASS);
     octets::digits_at(dst, NOTIONAL_AT, NOTIONAL_SIZE, masked.units);
     plus_at(dst, PLUS_AT, masked.plus);
     text_at(
@@ -175,9 +190,17 @@ fn write_notional(dst: &mut [u8], m: &[u8], cap: u64)
         NOTIONAL_CURRENCY_AT,
         CURRENCY_SIZE,
         m,
+        facts,
         NOTIONAL_CURRENCY,
     );
-    text_at(dst, LOCATION_AT, LOCATION_SIZE, m, SETTLEMENT_LOCATION);
+    text_at(
+        dst,
+        LOCATION_AT,
+        LOCATION_SIZE,
+        m,
+        facts,
+        SETTLEMENT_LOCATION,
+    );
 }
 
 // Writes the masked terms of a full message under the cap that applies.
@@ -185,8 +208,9 @@ pub fn write_terms(dst: &mut [u8], m: &[u8], cap: u64)
     requires { ⌜ (length (now dst) ≡ termsSize) × (cap ≤ largestCap) ⌝ }
     ensures { λ _. ⌜ now (dst .exit) ≡ termsOf cap (now (m .entry)) ⌝ }
 {
-    write_dates(dst, m);
-    write_truths(dst, m);
-    write_package(dst, m);
-    write_notional(dst, m, cap);
+    let facts = elements::facts_of(m);
+    write_dates(dst, m, facts);
+    write_truths(dst, m, facts);
+    write_package(dst, m, facts);
+    write_notional(dst, m, facts, cap);
 }

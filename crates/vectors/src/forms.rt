@@ -34,7 +34,7 @@ fn has_form(place: usize, v: &[u8]) -> bool {
         13 => dates::is_date(v),
         14 => dates::is_time(v),
         15 => is_action(v),
-        _ => actions::has_layout(v, LONGEST_MESSAGE),
+        _ => elements::has_layout(v, LONGEST_MESSAGE),
     }
 }
 

@@ -14,10 +14,11 @@ use Rattle.dates.specs.Dates.{fitsPattern, twoDigits, leap, daysIn, gregorian, 
 use Rattle.message.specs.Layout.{u16At, entryRight, layoutRight}
 use Rattle.message.specs.Values.{entries as wholeEntries, entryFrom, endOf, valueAt, value, isThere}
 use Rattle.actions.specs.Actions.{actionOf}
-use Rattle.actions.specs.Elements.{known, hasLayout}
 use Rattle.actions.specs.Matrix.{tick, pairAllowed}
-use Rattle.elements.specs.Conditions.{isPackage, notationIs, conditionOf, isDue, kept}
-use Rattle.elements.specs.Forms.{formOf, hasForm}
+use Rattle.elements.specs.Conditions.{isPackage, notationIs, factsOf, isDue, kept}
+use Rattle.elements.specs.Forms.{hasForm}
+use Rattle.elements.specs.Messages.{known, howMany, mostEntries, hasLayout, takes, needs}
+use Rattle.elements.specs.Table.{elementOf}
 use Rattle.notional.specs.Amount.{digit, spelled, fraction, amount}
 use Rattle.notional.specs.Masking.{over, shown, isCap}
 use Rattle.notional.specs.Rounding.{bands, stepIn, step, nearest, rounded}
@@ -47,7 +48,7 @@ unfolding isTrue isFalse isTruth isCleared isAllocation isNotation isAssetClass 
 forms = tt
 
 reading : Unit {0}
-unfolding u16At entryRight layoutRight wholeEntries entryFrom endOf valueAt value isThere actionOf known hasLayout tick pairAllowed isPackage notationIs conditionOf isDue kept formOf hasForm
+unfolding u16At entryRight layoutRight wholeEntries entryFrom endOf valueAt value isThere actionOf elementOf known howMany mostEntries hasLayout takes needs tick pairAllowed isPackage notationIs factsOf isDue kept hasForm
 reading = tt
 
 masking : Unit {0}

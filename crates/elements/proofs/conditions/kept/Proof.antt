@@ -1,17 +1,23 @@
 -- `elements::conditions::kept` meets its contract. Assumes nothing.
-use mathlib.Core.Path.{sym, _∙_}
-use Rattle.elements.specs.Conditions.{kept}
+use mathlib.Core.Path.{_≡_, sym, ap₂, _∙_}
+use denote.Ref.{now}
+use Rattle.elements.specs.declared.table.Element.{Element}
+use Rattle.elements.specs.Table.{elementOf}
+use Rattle.elements.specs.Conditions.{factsOf, met, kept}
 use borrow.Author.Needs.{needs}
 use Rattle.elements.proofs.conditions.kept.Statement.{statement}
 use Rattle.elements.proofs.conditions.kept.Tie as tie
 
+told : (c : tie.After-is-met) → c .is-met .result ≡ met (elementOf (c .before .before .before .args .code) .shown) (factsOf (now (c .before .before .before .args .m)))
+told c = c .is-met .ensures ∙ ap₂ (λ (e : Element) f. met (e .shown) f) (c .before .element-of .ensures) (c .before .before .before .pre)
+
 returns : tie.Need-returns
 unfolding kept
-returns c = rw (← c .before .before .before .condition-of .ensures .0, sym (c .before .before .is-met .ensures) ∙ c .before .if1 .taken) (c .element .ensures .0)
+returns c = rw (sym (told (c .before .before)) ∙ c .before .if1 .taken) (c .element .ensures .0)
 
 returns-2 : tie.Need-returns-2
 unfolding kept
-returns-2 c = rw (← c .before .before .before .condition-of .ensures .0, sym (c .before .before .is-met .ensures) ∙ c .before .if1 .left)
+returns-2 c = rw (sym (told (c .before .before)) ∙ c .before .if1 .left)
 
 pub kept-spec : {M : Type 1} → statement M
 kept-spec =

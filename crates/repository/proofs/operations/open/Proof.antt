@@ -20,7 +20,7 @@ use Rattle.repository.proofs.operations.open.Tie as tie
 
 -- a refused opening writes nothing
 kept : (limits : Limits) (caps : Caps) (l : List ℕ) (n : ℕ) → opened limits caps l .verdict ≡ suc n → l ≡ opened limits caps l .ledger
-kept limits caps l n e = sym (opening-answers limits caps l (λ z. omega (arith, z, e)) .2)
+kept limits caps l n e = sym (opening-answers limits caps l (λ z. omega (arith, z, e)) .1)
 
 returns : tie.Need-returns
 returns c =

@@ -3,31 +3,36 @@ use mathlib.Core.Path.{_≡_, sym, ap, _∙_}
 use borrow.Author.Tests.{not-true, not-false}
 use Rattle.octets.specs.Text.{text}
 use denote.Ref.{now}
-use Rattle.elements.specs.Conditions.{notationIs}
+use Rattle.elements.specs.declared.conditions.Facts.{Facts}
+use Rattle.elements.specs.Conditions.{isPackage, notationIs, factsOf}
 use Rattle.numbers.specs.Numbers.{unsignedOf}
 use Rattle.rules.specs.Rules.{longPrice, priceTooLong}
 use borrow.Author.Needs.{needs}
 use Rattle.rules.proofs.checks.is_price_too_long.Statement.{statement}
 use Rattle.rules.proofs.checks.is_price_too_long.Tie as tie
 
--- what the test of the notation told
+-- what the facts tell, and the test of the notation
+packaged : (c : tie.Start) → c .args .facts .packaged ≡ isPackage (now (c .args .m))
+unfolding factsOf
+packaged c = ap (λ (f : Facts). f .packaged) (c .pre)
+
 told : (c : tie.After-notation-is) → c .notation-is .result ≡ notationIs (text "3") (now (c .before .before .before .before .before .args .m))
 unfolding text
 told c = c .notation-is .ensures
 
 returns : tie.Need-returns
 unfolding priceTooLong
-returns c = rw (sym (c .before .is-package .ensures) ∙ not-true _ (c .if1 .taken))
+returns c = rw (sym (packaged (c .before .before .before)) ∙ not-true _ (c .if1 .taken))
 
 returns-2 : tie.Need-returns-2
 unfolding priceTooLong
-returns-2 c = rw (sym (c .before .before .before .before .is-package .ensures) ∙ not-false _ (c .before .before .before .if1 .left), sym (told (c .before)) ∙ not-true _ (c .if2 .taken))
+returns-2 c = rw (sym (packaged (c .before .before .before .before .before .before)) ∙ not-false _ (c .before .before .before .if1 .left), sym (told (c .before)) ∙ not-true _ (c .if2 .taken))
 
 returns-3 : tie.Need-returns-3
 unfolding priceTooLong
 returns-3 c =
     rw (
-      sym (c .before .before .before .before .before .before .before .is-package .ensures) ∙ not-false _ (c .before .before .before .before .before .before .if1 .left),
+      sym (packaged (c .before .before .before .before .before .before .before .before .before)) ∙ not-false _ (c .before .before .before .before .before .before .if1 .left),
       sym (told (c .before .before .before .before)) ∙ not-false _ (c .before .before .before .if2 .left),
     )
     (c .is-long-price .ensures ∙ ap longPrice (c .before .unsigned-of .ensures ∙ ap unsignedOf (c .before .before .element .ensures .0)))
@@ -36,7 +41,6 @@ pub is-price-too-long-spec : {M : Type 1} → statement M
 is-price-too-long-spec =
     tie.close
     (tie.spec
-    (λ c κs. search needs)
     returns
     (λ c. search needs)
     (λ c κs. search needs)

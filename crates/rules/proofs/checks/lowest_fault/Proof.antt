@@ -9,7 +9,7 @@ use Rattle.octets.proofs.SearchLaws.{first-more, first-stop, first-end}
 use Rattle.message.specs.Values.{isThere}
 use Rattle.message.specs.Reading.{Laid, Reached, nextPlace}
 use Rattle.message.proofs.ReadingLaws.{reached-start, reached-next}
-use Rattle.actions.specs.Elements.{lastCode}
+use Rattle.elements.specs.Table.{lastCode}
 use Rattle.rules.specs.Findings.{lowest}
 use Rattle.rules.specs.Rules.{atFault}
 use borrow.Author.Needs.{needs}
@@ -17,7 +17,7 @@ use Rattle.rules.proofs.checks.lowest_fault.Statement.{statement}
 use Rattle.rules.proofs.checks.lowest_fault.Tie as tie
 
 abbrev Inv-loop : tie.InvT-loop
-Inv-loop m action check n code₀ at₀ code at =
+Inv-loop m facts action check n code₀ at₀ code at =
     (code ≤ lastCode + 1)
     × Laid m
     × Reached m code at
@@ -25,7 +25,7 @@ Inv-loop m action check n code₀ at₀ code at =
     × (firstFrom (atFault check action m) code (lastCode + 1 - code) ≡ firstFrom (atFault check action m) 1 lastCode)
 
 abbrev μ-loop : tie.MeasureT-loop
-μ-loop m action check n code₀ at₀ code at = lastCode + 1 - code
+μ-loop m facts action check n code₀ at₀ code at = lastCode + 1 - code
 
 loop-holds : tie.Need-loop-holds Inv-loop μ-loop
 loop-holds c = (search needs, search needs, reached-start (now (c .before .before .args .m)) (search needs), search needs, refl)
@@ -34,7 +34,7 @@ is-at-fault-requires : tie.Need-is-at-fault-requires Inv-loop μ-loop
 is-at-fault-requires c κs =
     let n = c .before .before .before .entries-of .ensures in
     let l = c .before .before .loop in
-    (n .0, ((n .1, n .2), (l .inv .1, (l .inv .2, c .is-here .ensures))))
+    (n .0, ((n .1, n .2), (l .inv .1, (l .inv .2, (c .is-here .ensures, c .before .before .before .before .before .pre .1)))))
 
 returns : tie.Need-returns Inv-loop μ-loop
 unfolding lowest
