@@ -1,21 +1,23 @@
 -- Identifiers count lines; calls that write nothing. Assumes nothing.
-use Prim.Native.Nat.{ℕ, zero, suc, _+_, _^_, _<_, _≤_}
+use Prim.Native.Nat.{ℕ, _+_, _^_, _<_, _≤_}
 use mathlib.Core.Bool.{Bool, true, false, false≢true}
 use mathlib.Core.Path.{_≡_, refl, sym, ap, _∙_}
 use mathlib.Core.List.{List, [], _∷_, _++_}
 use native.Mathlib.Omega.{arith}
 use lib.ListN.{length}
-use Rattle.octets.specs.Choice.{choose}
+use lib.Dec.{eqb}
+use Rattle.octets.specs.Choice.{choose, both}
+use Rattle.octets.proofs.ChoiceLaws.{both-first}
+use Rattle.actions.specs.Actions.{writesLine}
 use Rattle.ledger.specs.declared.header.Caps.{Caps}
 use Rattle.ledger.specs.Layout.{u32}
 use Rattle.ledger.specs.Header.{nextIdentifier}
 use Rattle.submission.specs.Opening.{Limits}
-use Rattle.submission.specs.Submission.{submitted}
-use Rattle.submission.specs.History.{Call, submit, messageOf, answerTo, ledgerAfter, ledgerAfterAll, publishes, lineOf, tape}
+use Rattle.submission.specs.History.{Call, submit, messageOf, answerTo, ledgerAfter, ledgerAfterAll, hasAction, publishes, lineOf, tape}
 use Rattle.submission.specs.Demand3.{start}
 use Rattle.submission.specs.Published.{published}
 use Rattle.submission.specs.Counting.{Identifier-with-line, Identifier-counts, Kept-by-calls, Quiet-call}
-use Rattle.submission.proofs.Turn.{Accepts, accepts, refuses, refused-publishes, accepted-publishes}
+use Rattle.submission.proofs.Turn.{by-turn}
 use Rattle.submission.proofs.Told.{Holds, kept-holding}
 use Rattle.submission.proofs.Opened.{start-holds}
 
@@ -32,15 +34,12 @@ record Given (limits : Limits) (l : List ℕ) (c : Call) : Type 0 where
   some : publishes limits l c ≡ true → 1 ≤ nextIdentifier l
 
 given : (limits : Limits) (l : List ℕ) (c : Call) → Given limits l c
-given limits l (submit m t) = by (submitted limits l t m .verdict) refl
-  where
-    by : (v : ℕ) → submitted limits l t m .verdict ≡ v → Given limits l (submit m t)
-    by zero v =
-        let c : Accepts limits l t m = accepts limits l t m v in
-        record { is = ap (λ s. s .identifier) (c .answer) ∙ rw (accepted-publishes limits l t m c); some = λ p. c .fitting .header .positive }
-    by (suc n) v =
-        let none : publishes limits l (submit m t) ≡ false = refused-publishes limits l t m n v in
-        record { is = ap (λ s. s .identifier) (refuses limits l t m n v) ∙ rw none; some = λ p. absurd (false≢true (sym none ∙ p)) }
+unfolding publishes
+given limits l (submit m t) =
+    record {
+      is = by-turn limits l t m (λ s. s .identifier ≡ choose (both (eqb (s .verdict) 0) (hasAction writesLine m)) (nextIdentifier l) 0) (λ a reads f. rw reads) (λ v z. rw z);
+      some = by-turn limits l t m (λ s. both (eqb (s .verdict) 0) (hasAction writesLine m) ≡ true → 1 ≤ nextIdentifier l) (λ a reads f p. f .header .positive) (λ v z p. absurd (false≢true (sym z ∙ both-first _ _ p)));
+    }
 
 pub identifier-with-line : Identifier-with-line
 identifier-with-line limits l c = (λ e. by (publishes limits l c) refl e, other (publishes limits l c) refl)
@@ -70,7 +69,7 @@ counted : (limits : Limits) → limits .largest < 256 ^ u32 → (caps : Caps) (c
 unfolding ledgerAfterAll published
 counted limits small caps [] l earlier h = record { earlier = earlier; holds = h; count = omega arith }
 counted limits small caps (c ∷ cs) l earlier h =
-    let rest = counted limits small caps cs (ledgerAfter limits l c) _ (kept-holding limits small caps l c earlier h) in
+    let rest = counted limits small caps cs (ledgerAfter limits l c) _ (kept-holding limits small c h) in
     record { earlier = rest .earlier; holds = rest .holds; count = rest .count ∙ one (publishes limits l c) (published limits (ledgerAfter limits l c) cs) }
   where
     one : (b : Bool) (ms : List (List ℕ)) → length ms + length (choose b (messageOf c ∷ earlier) earlier) ≡ length (choose b (messageOf c ∷ ms) ms) + length earlier

@@ -181,19 +181,19 @@ accepted-exactly limits l t m = (sound limits l t m, is-accepted limits l t m)
 
 -- ---- what an accepted message writes
 
-module _ (limits : Limits) (l t m : List ℕ) (a : Action) (f : Fits limits l t m a) (small : limits .largest < 256 ^ u32) where
+module _ {limits : Limits} {l t m : List ℕ} {a : Action} (f : Fits limits l t m a) (small : limits .largest < 256 ^ u32) where
   abbrev old : List ℕ
   old = rowAt l (placeFor a l m)
 
   whole : length (rowAt l (placeFor a l m)) ≡ rowSize
-  whole = row-whole limits l t m a f small (placeFor a l m) (f .place)
+  whole = row-whole f small (placeFor a l m) (f .place)
 
   shown : length (termsFor a l m) ≡ termsSize
-  shown = length-shown limits l t m a f small
+  shown = length-shown f small
 
   row-is : rowAt (ledgerFor a l m) (placeFor a l m) ≡ rowAfter a (nextStatus a (swapStatus l (swapOf m))) (swapOf m) (nextIdentifier l) (termsFor a l m) (rowAt l (placeFor a l m))
   unfolding rowFor
-  row-is = row-written limits l t m a f small
+  row-is = row-written f small
 
   -- the row of a new swap
   new-row : isNew a ≡ true → rowAt (ledgerFor a l m) (rowsInUse l) ≡ newRow live (swapOf m) (nextIdentifier l) (maskedTerms (capsIn l) m)
@@ -201,7 +201,7 @@ module _ (limits : Limits) (l t m : List ℕ) (a : Action) (f : Fits limits l t 
   new-row e =
       let is : a ≡ Newt = is-newt a e in
       let none : isKnown l (swapOf m) ≡ false = f .free e in
-      ap (rowAt (ledgerFor a l m)) (sym (new-place limits l t m a f small e)) ∙ row-is ∙ rw (is, none)
+      ap (rowAt (ledgerFor a l m)) (sym (new-place f small e)) ∙ row-is ∙ rw (is, none)
 
   own-terms : (b : Bool) → isFull a ≡ b → choose b (termsFor a l m) (storedTerms (rowAt l (placeFor a l m))) ≡ choose b (maskedTerms (capsIn l) m) (storedTerms (rowAt l (placeFor a l m)))
   unfolding termsFor
@@ -210,14 +210,14 @@ module _ (limits : Limits) (l t m : List ℕ) (a : Action) (f : Fits limits l t 
 
   -- every other byte
   fits : rowStart (placeFor a l m) + length (rowFor a l m) ≤ length l
-  fits = omega (arith, length-after limits l t m a f small, rows-fit (limits .largest) l (f .header), f .place)
+  fits = omega (arith, length-after f small, rows-fit (limits .largest) l (f .header), f .place)
 
   bytes-kept : (i : ℕ) → Outside (rowStart (placeFor a l m)) rowSize i → (isNew a ≡ true → Outside rowsAt u32 i) → (writesLine a ≡ true → Outside nextAt u64 i) → getD (ledgerFor a l m) i 0 ≡ getD l i 0
   unfolding ledgerFor
   bytes-kept i outside p q =
       let same : length (splice l (rowStart (placeFor a l m)) (rowFor a l m)) ≡ length l = length-splice l (rowFor a l m) (rowStart (placeFor a l m)) fits in
       raised-byte a (rowsInUse l) (nextIdentifier l) (splice l (rowStart (placeFor a l m)) (rowFor a l m)) (omega (arith, same, f .header .long)) i p q
-      ∙ byte-apart l (rowFor a l m) (rowStart (placeFor a l m)) i fits (λ b. omega (arith, length-after limits l t m a f small, outside b))
+      ∙ byte-apart l (rowFor a l m) (rowStart (placeFor a l m)) i fits (λ b. omega (arith, length-after f small, outside b))
 
   ledger-written : LedgerWritten a l m (ledgerFor a l m)
   ledger-written =
@@ -228,9 +228,9 @@ module _ (limits : Limits) (l t m : List ℕ) (a : Action) (f : Fits limits l t 
         terms = ap storedTerms row-is ∙ after-terms a _ (swapOf m) (nextIdentifier l) (termsFor a l m) old shown whole ∙ own-terms (isFull a) refl;
         name = λ e. rw row-is (after-kept a _ (swapOf m) (nextIdentifier l) (termsFor a l m) old shown whole e lengthAt (identifierAt - lengthAt) (omega arith) (omega arith));
         tail = λ e. rw row-is (after-tail a _ (swapOf m) (nextIdentifier l) (termsFor a l m) old shown whole e);
-        rows = rows-raised limits l t m a f small;
-        next = next-raised limits l t m a f small;
-        long = ledger-length limits l t m a f small;
+        rows = rows-raised f small;
+        next = next-raised f small;
+        long = ledger-length f small;
         others = bytes-kept;
       }
 
@@ -261,8 +261,8 @@ acceptance-writes limits l t m small v =
     record {
       action = c .action;
       reads = c .reads;
-      ledger = rw (ap (λ s. s .ledger) (c .answer)) (ledger-written limits l t m (c .action) (c .fitting) small);
-      tape = rw (ap (λ s. s .tape) (c .answer)) (tape-written limits l t m (c .action) (c .fitting) small);
+      ledger = rw (ap (λ s. s .ledger) (c .answer)) (ledger-written (c .fitting) small);
+      tape = rw (ap (λ s. s .tape) (c .answer)) (tape-written (c .fitting) small);
       identifier = ap (λ s. s .identifier) (c .answer);
     }
 

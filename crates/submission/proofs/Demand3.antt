@@ -9,7 +9,7 @@ use Rattle.submission.proofs.Pairs.{tell-same}
 
 -- the tape says what the published messages and the caps say
 pub tape-told : Tape-told
-tape-told limits caps l h small v = told-from limits small caps h (start limits caps l) [] (start-holds limits caps l v)
+tape-told limits caps l h small v = told-from limits small h (start limits caps l) [] (start-holds limits caps l v)
 
 -- two histories that agree in what demand 3 names have equal tapes, byte for byte
 pub same-tapes : Same-tapes

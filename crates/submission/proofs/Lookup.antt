@@ -69,7 +69,7 @@ length-stored r size = length-part r termsAt termsSize (omega arith)
 
 -- ---- the ledger after
 
-module _ (limits : Limits) (l t m : List ℕ) (a : Action) (f : Fits limits l t m a) (small : limits .largest < 256 ^ u32) where
+module _ {limits : Limits} {l t m : List ℕ} {a : Action} (f : Fits limits l t m a) (small : limits .largest < 256 ^ u32) where
   room : (j : ℕ) → j < capacityIn l → rowStart (suc j) ≤ length l
   room j h = omega (arith, rows-fit (limits .largest) l (f .header))
 

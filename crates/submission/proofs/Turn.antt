@@ -5,6 +5,7 @@ use mathlib.Core.Path.{_≡_, refl, sym, ap, _∙_}
 use mathlib.Core.List.{List, []}
 use native.Mathlib.Omega.{arith}
 use lib.ListN.{length, take}
+use lib.Dec.{eqb}
 use borrow.Author.Tests.{ne-eqb}
 use Rattle.octets.specs.Choice.{choose}
 use Rattle.octets.specs.Part.{splice}
@@ -16,8 +17,7 @@ use Rattle.ledger.specs.Layout.{lineSize}
 use Rattle.ledger.specs.Header.{nextIdentifier}
 use Rattle.ledger.proofs.LineLaws.{length-line}
 use Rattle.submission.specs.Opening.{Limits}
-use Rattle.submission.specs.Submission.{verdictOn, actionIn, lineFor, ledgerFor, accepted, refused, submitted}
-use Rattle.submission.specs.History.{publishes, lineOf, submit}
+use Rattle.submission.specs.Submission.{verdictOn, actionIn, lineFor, tapeFor, Submitted, accepted, refused, submitted}
 use Rattle.submission.proofs.Acceptance.{Accepting, accepting, Fits, fits, is-accepted, is-refused}
 
 module _ (limits : Limits) (l t m : List ℕ) where
@@ -44,41 +44,19 @@ module _ (limits : Limits) (l t m : List ℕ) where
   pub refuses : (n : ℕ) → submitted limits l t m .verdict ≡ suc n → submitted limits l t m ≡ refused (verdictOn limits l t m) l t
   refuses n v = is-refused limits l t m n (sym verdict-is ∙ v)
 
-  -- ---- a refusal
+  -- what holds of an acceptance and of a refusal holds of the answer
+  pub by-turn : (P : Submitted → Type 0) → ((a : Action) → actionIn m ≡ Value a → Fits limits l t m a → P (accepted a l t m)) → ((v : ℕ × ℕ) → eqb (v .0) 0 ≡ false → P (refused v l t)) → P (submitted limits l t m)
+  by-turn P takes leaves = by (submitted limits l t m .verdict) refl
+    where
+      by : (n : ℕ) → submitted limits l t m .verdict ≡ n → P (submitted limits l t m)
+      by zero v = let c : Accepts = accepts v in rw (c .answer) (takes (c .action) (c .reads) (c .fitting))
+      by (suc n) v = rw (refuses n v) (leaves (verdictOn limits l t m) (ne-eqb (verdictOn limits l t m .0) 0 (λ e. omega (arith, e, v, verdict-is))))
 
-  module _ (n : ℕ) (v : submitted limits l t m .verdict ≡ suc n) where
-    pub refused-ledger : submitted limits l t m .ledger ≡ l
-    refused-ledger = ap (λ s. s .ledger) (refuses n v)
-
-    pub refused-publishes : publishes limits l (submit m t) ≡ false
-    unfolding publishes
-    refused-publishes = rw (ne-eqb (submitted limits l t m .verdict) 0 (λ e. omega (arith, e, v)))
-
-    pub refused-line : lineOf limits l (submit m t) ≡ []
-    unfolding lineOf
-    refused-line = rw refused-publishes
-
-  -- ---- an acceptance
-
-  module _ (c : Accepts) where
-    pub accepted-ledger : submitted limits l t m .ledger ≡ ledgerFor (c .action) l m
-    accepted-ledger = ap (λ s. s .ledger) (c .answer)
-
-    pub accepted-publishes : publishes limits l (submit m t) ≡ writesLine (c .action)
-    unfolding publishes
-    accepted-publishes = rw (ap (λ s. s .verdict) (c .answer), c .reads)
-
-    first-bytes : take lineSize (splice t 0 (lineFor (c .action) l m)) ≡ lineFor (c .action) l m
-    unfolding lineFor
-    first-bytes = by _ (length-line (c .action) (nextIdentifier l) _ m _) (c .fitting .tape)
-      where
-        by : (line : List ℕ) → length line ≡ lineSize → lineSize ≤ length t → take lineSize (splice t 0 line) ≡ line
-        by line size h = rw size at (part-at t line 0 (omega arith))
-
-    pub accepted-line : lineOf limits l (submit m t) ≡ choose (writesLine (c .action)) (lineFor (c .action) l m) []
-    unfolding lineOf
-    accepted-line = rw (accepted-publishes, ap (λ s. s .tape) (c .answer)) (by (writesLine (c .action)))
-      where
-        by : (b : Bool) → choose b (take lineSize (choose b (splice t 0 (lineFor (c .action) l m)) t)) [] ≡ choose b (lineFor (c .action) l m) []
-        by true = first-bytes
-        by false = refl
+-- the line in the tape buffer
+pub accepted-line : {limits : Limits} {l t m : List ℕ} {a : Action} → Fits limits l t m a → choose (writesLine a) (take lineSize (tapeFor a l t m)) [] ≡ choose (writesLine a) (lineFor a l m) []
+unfolding lineFor
+accepted-line {l = l} {t = t} {m = m} {a = a} f = by (writesLine a) _ (length-line a (nextIdentifier l) _ m _) (f .tape)
+  where
+    by : (b : Bool) (line : List ℕ) → length line ≡ lineSize → lineSize ≤ length t → choose b (take lineSize (choose b (splice t 0 line) t)) [] ≡ choose b line []
+    by true line size h = rw size at (part-at t line 0 (omega arith))
+    by false line size h = refl
