@@ -72,7 +72,7 @@ step-more d xs ys e =
     (λ f. step-on d (xs ++ ys) (Overlong (lengthOf xs)) (more ∙ f) ∙ sym (step-on d xs (Overlong (lengthOf xs)) f))
     (λ f.
     step-on d (xs ++ ys) (Message (lengthOf xs)) (more ∙ f)
-    ∙ ap (λ (m : List ℕ). answered d (lengthOf xs) (submitted documentLimits (d .ledger) (d .tape) m)) sent
+    ∙ ap (λ (m : List ℕ). answered d (lengthOf xs) (submitted documentLimits (d .lent) m)) sent
     ∙ sym (step-on d xs (Message (lengthOf xs)) f))
     (whole-frame (documentLimits .longest) xs e)
 

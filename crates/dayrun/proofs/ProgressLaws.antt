@@ -8,6 +8,7 @@ use native.Mathlib.Omega.{arith}
 use lib.ListN.{length, drop}
 use lib.Seq.{drop-drop}
 use Rattle.octets.specs.Choice.{choose}
+use Rattle.submission.specs.Lent.{Lent}
 use Rattle.submission.specs.Submission.{Submitted}
 use Rattle.repository.specs.declared.answer.Answer.{Answer}
 use Rattle.repository.specs.Answers.{submissionAnswer}
@@ -22,18 +23,18 @@ use Rattle.dayrun.specs.Progress.{counted, dayOf, stepAt, progressAfter,
 
 -- ---- what is counted is the step's
 
-module _ (l t xs : List ℕ) (p : Progress) (n : ℕ) (s : Submitted) (told : step (dayOf l t p) xs ≡ answered (dayOf l t p) n s) (a : Answer) (same : a ≡ submissionAnswer s) where
-  pub told-progress : counted p (lengthSize + n) (reportLine (p .judged + 1) (a .verdict) (a .element) (a .identifier)) (a .identifier) ≡ progressAfter p (step (dayOf l t p) xs)
+module _ (lent : Lent) (xs : List ℕ) (p : Progress) (n : ℕ) (s : Submitted) (told : step (dayOf lent p) xs ≡ answered (dayOf lent p) n s) (a : Answer) (same : a ≡ submissionAnswer s) where
+  pub told-progress : counted p (lengthSize + n) (reportLine (p .judged + 1) (a .verdict) (a .element) (a .identifier)) (a .identifier) ≡ progressAfter p (step (dayOf lent p) xs)
   told-progress =
       ap (λ (b : Answer). counted p (lengthSize + n) (reportLine (p .judged + 1) (b .verdict) (b .element) (b .identifier)) (b .identifier)) same ∙ ap (progressAfter p) (sym told)
 
-  pub told-line : reportLine (p .judged + 1) (a .verdict) (a .element) (a .identifier) ≡ step (dayOf l t p) xs .line
+  pub told-line : reportLine (p .judged + 1) (a .verdict) (a .element) (a .identifier) ≡ step (dayOf lent p) xs .line
   told-line =
       ap (λ (b : Answer). reportLine (p .judged + 1) (b .verdict) (b .element) (b .identifier)) same ∙ ap (λ x. x .line) (sym told)
 
 -- where no message is whole nothing is counted
-pub unmoved : (l t xs : List ℕ) (p : Progress) → p ≡ progressAfter p (stepOn (dayOf l t p) xs Partial)
-unmoved l t xs p =
+pub unmoved : (lent : Lent) (xs : List ℕ) (p : Progress) → p ≡ progressAfter p (stepOn (dayOf lent p) xs Partial)
+unmoved lent xs p =
     let row : ℕ → ℕ → Progress = λ at used. record { at = at; used = used; judged = p .judged; published = p .published; «is_open» = p .«is_open» } in
     ap (λ (at : ℕ). row at (p .used)) (sym (add-zero (p .at))) ∙ ap (row (p .at + 0)) (sym (add-zero (p .used)))
 
@@ -90,54 +91,53 @@ front-leaves input kept p r e k leaves o m =
 
 -- ---- messages judged one after the other
 
-day-same : (d : Day) (l t : List ℕ) (p : Progress) → l ≡ d .ledger → t ≡ d .tape → p .judged ≡ d .judged → p .published ≡ d .published → dayOf l t p ≡ d
-day-same d l t p a b c e =
-    let row : List ℕ → List ℕ → ℕ → ℕ → Day = λ x y j k. record { ledger = x; tape = y; judged = j; published = k } in
-    ap (λ (x : List ℕ). row x t (p .judged) (p .published)) a
-    ∙ ap (λ (y : List ℕ). row (d .ledger) y (p .judged) (p .published)) b
-    ∙ ap (λ (j : ℕ). row (d .ledger) (d .tape) j (p .published)) c
-    ∙ ap (row (d .ledger) (d .tape) (d .judged)) e
+day-same : (d : Day) (lent : Lent) (p : Progress) → lent ≡ d .lent → p .judged ≡ d .judged → p .published ≡ d .published → dayOf lent p ≡ d
+day-same d lent p a c e =
+    let row : Lent → ℕ → ℕ → Day = λ x j k. record { lent = x; judged = j; published = k } in
+    ap (λ (x : Lent). row x (p .judged) (p .published)) a
+    ∙ ap (λ (j : ℕ). row (d .lent) j (p .published)) c
+    ∙ ap (row (d .lent) (d .judged)) e
 
-pub reached-start : (l t input : List ℕ) (p : Progress) → Reached l t input p l t p
+pub reached-start : (lent : Lent) (input : List ℕ) (p : Progress) → Reached lent input p lent p
 unfolding afterMessages restAfter
-reached-start l t input p =
+reached-start lent input p =
     let none : p .judged - p .judged ≡ 0 = omega arith in
     record { counted = omega arith; day = rw none; rest = rw none }
 
-module _ (l₀ t₀ input : List ℕ) (p₀ : Progress) (l t l′ t′ : List ℕ) (p r : Progress) (so-far : Reached l₀ t₀ input p₀ l t p) (told : r ≡ progressAfter p (stepAt l t input p)) (ledger : l′ ≡ stepAt l t input p .after .ledger) (tape : t′ ≡ stepAt l t input p .after .tape) where
-  moved : r .at ≡ p .at + stepAt l t input p .taken
+module _ {lent₀ : Lent} {input : List ℕ} {p₀ : Progress} {lent lent′ : Lent} {p r : Progress} (so-far : Reached lent₀ input p₀ lent p) (told : r ≡ progressAfter p (stepAt lent input p)) (left : lent′ ≡ stepAt lent input p .after .lent) where
+  moved : r .at ≡ p .at + stepAt lent input p .taken
   moved = ap (λ (x : Progress). x .at) told
 
   -- no message was whole
   pub none-left : r .at ≡ p .at → isWhole (drop (r .at) input) ≡ false
-  none-left e = rw e (not-whole-left (dayOf l t p) (drop (p .at) input) (omega (arith, moved, e)))
+  none-left e = rw e (not-whole-left (dayOf lent p) (drop (p .at) input) (omega (arith, moved, e)))
 
-  pub reached-none : r .at ≡ p .at → Reached l₀ t₀ input p₀ l′ t′ r
+  pub reached-none : r .at ≡ p .at → Reached lent₀ input p₀ lent′ r
   reached-none e =
-      let same : stepAt l t input p .after ≡ dayOf l t p = step-none (dayOf l t p) (drop (p .at) input) (omega (arith, moved, e)) in
+      let same : stepAt lent input p .after ≡ dayOf lent p = step-none (dayOf lent p) (drop (p .at) input) (omega (arith, moved, e)) in
       let count : r .judged ≡ p .judged = ap (λ (x : Progress). x .judged) told ∙ ap (λ (x : Day). x .judged) same in
-      let here : dayOf l′ t′ r ≡ dayOf l t p = day-same _ l′ t′ r ledger tape (ap (λ (x : Progress). x .judged) told) (ap (λ (x : Progress). x .published) told) ∙ same in
+      let here : dayOf lent′ r ≡ dayOf lent p = day-same _ lent′ r left (ap (λ (x : Progress). x .judged) told) (ap (λ (x : Progress). x .published) told) ∙ same in
       record {
         counted = omega (arith, count, so-far .counted);
-        day = here ∙ so-far .day ∙ ap (λ (j : ℕ). afterMessages (j - p₀ .judged) (dayOf l₀ t₀ p₀) (drop (p₀ .at) input)) (sym count);
+        day = here ∙ so-far .day ∙ ap (λ (j : ℕ). afterMessages (j - p₀ .judged) (dayOf lent₀ p₀) (drop (p₀ .at) input)) (sym count);
         rest = rw (count, e) (so-far .rest);
       }
 
-  pub reached-more : (w : Progress) → p .at < r .at → w .at ≡ r .at → w .judged ≡ r .judged → w .published ≡ r .published → Reached l₀ t₀ input p₀ l′ t′ w
+  pub reached-more : (w : Progress) → p .at < r .at → w .at ≡ r .at → w .judged ≡ r .judged → w .published ≡ r .published → Reached lent₀ input p₀ lent′ w
   reached-more w h a j u =
       let k : ℕ = p .judged - p₀ .judged in
-      let d : Day = dayOf l₀ t₀ p₀ in
+      let d : Day = dayOf lent₀ p₀ in
       let xs : List ℕ = drop (p₀ .at) input in
-      let s : Step = stepAt l t input p in
+      let s : Step = stepAt lent input p in
       let s′ : Step = step (afterMessages k d xs) (restAfter k d xs) in
-      let one : s .after .judged ≡ p .judged + 1 = step-one (dayOf l t p) (drop (p .at) input) (omega (arith, moved, h)) in
+      let one : s .after .judged ≡ p .judged + 1 = step-one (dayOf lent p) (drop (p .at) input) (omega (arith, moved, h)) in
       let count : w .judged ≡ s .after .judged = j ∙ ap (λ (x : Progress). x .judged) told in
       let place : w .judged - p₀ .judged ≡ suc k = omega (arith, count, one, so-far .counted) in
       let same : s ≡ s′ = ap (λ (x : Day). step x (drop (p .at) input)) (so-far .day) ∙ ap (step (afterMessages k d xs)) (so-far .rest) in
-      let here : dayOf l′ t′ w ≡ s .after = day-same (s .after) l′ t′ w ledger tape count (u ∙ ap (λ (x : Progress). x .published) told) in
-      let left : drop (w .at) input ≡ drop (s .taken) (drop (p .at) input) = ap (λ (i : ℕ). drop i input) (a ∙ moved) ∙ sym (drop-drop (s .taken) (p .at) input) in
+      let here : dayOf lent′ w ≡ s .after = day-same (s .after) lent′ w left count (u ∙ ap (λ (x : Progress). x .published) told) in
+      let rest : drop (w .at) input ≡ drop (s .taken) (drop (p .at) input) = ap (λ (i : ℕ). drop i input) (a ∙ moved) ∙ sym (drop-drop (s .taken) (p .at) input) in
       record {
         counted = omega (arith, count, one, so-far .counted);
         day = rw place (here ∙ ap (λ (x : Step). x .after) same ∙ sym (after-more k d xs));
-        rest = rw place (left ∙ ap (λ (x : Step). drop (x .taken) (drop (p .at) input)) same ∙ ap (drop (s′ .taken)) (so-far .rest) ∙ sym (rest-more k d xs));
+        rest = rw place (rest ∙ ap (λ (x : Step). drop (x .taken) (drop (p .at) input)) same ∙ ap (drop (s′ .taken)) (so-far .rest) ∙ sym (rest-more k d xs));
       }

@@ -9,6 +9,7 @@ use Rattle.rules.specs.Verdicts.{layoutWrong}
 use Rattle.ledger.specs.declared.header.Caps.{Caps}
 use Rattle.ledger.specs.Layout.{headerSize, rowSize, lineSize}
 use Rattle.submission.specs.Opening.{documentLimits, opened}
+use Rattle.submission.specs.Lent.{Lent, lentOf}
 use Rattle.submission.specs.Submission.{Submitted, submitted, refused}
 use Rattle.day.specs.declared.frame.Frame.{Frame}
 use Rattle.day.specs.declared.frame.Frame.the-variants.{Message, Overlong, Partial}
@@ -31,8 +32,7 @@ mostMessages = 1_000_000_000_000_000_000
 
 -- a day so far: ledger and tape buffer, messages judged, lines published
 pub record Day : Type 0 where
-  pub ledger : List ℕ
-  pub tape : List ℕ
+  pub lent : Lent
   pub judged : ℕ
   pub published : ℕ
 
@@ -52,13 +52,13 @@ answered d n s =
     record {
       taken = lengthSize + n;
       line = reportLine (d .judged + 1) (s .verdict) (s .element) (s .identifier);
-      after = record { ledger = s .ledger; tape = s .tape; judged = d .judged + 1; published = d .published + linesOf (s .identifier) };
+      after = record { lent = s .lent; judged = d .judged + 1; published = d .published + linesOf (s .identifier) };
     }
 
 -- one longer than the longest is passed over, and 5 is reported
 abbrev pub stepOn : Day → List ℕ → Frame → Step
-stepOn d xs (Message n) = answered d n (submitted documentLimits (d .ledger) (d .tape) (part xs lengthSize n))
-stepOn d xs (Overlong n) = answered d n (refused (layoutWrong, 0) (d .ledger) (d .tape))
+stepOn d xs (Message n) = answered d n (submitted documentLimits (d .lent) (part xs lengthSize n))
+stepOn d xs (Overlong n) = answered d n (refused (layoutWrong, 0) (d .lent))
 stepOn d xs Partial = record { taken = 0; line = []; after = d }
 
 unfoldable pub step : Day → List ℕ → Step
@@ -85,8 +85,7 @@ reportFrom (suc k) d xs =
 abbrev pub newDay : Day
 newDay =
     record {
-      ledger = opened documentLimits caps (replicate (headerSize + rows * rowSize) 0) .ledger;
-      tape = replicate lineSize 0;
+      lent = lentOf (opened documentLimits caps (replicate (headerSize + rows * rowSize) 0) .ledger) (replicate lineSize 0);
       judged = 0;
       published = 0;
     }

@@ -6,6 +6,7 @@ use mathlib.Core.List.{List}
 use lib.ListN.{length, drop}
 use Rattle.octets.specs.Choice.{choose}
 use Rattle.dayrun.specs.declared.judging.Progress.{Progress}
+use Rattle.submission.specs.Lent.{Lent}
 use Rattle.day.specs.Frame.{longestFrame, isWhole}
 use Rattle.day.specs.Report.{heading, longestLine}
 use Rattle.dayrun.specs.Day.{Day, Step, mostMessages, linesOf, step, afterMessages, restAfter}
@@ -16,22 +17,22 @@ counted p taken line identifier =
     record { at = p .at + taken; used = p .used + length line; judged = p .judged + 1; published = p .published + linesOf identifier; «is_open» = p .«is_open» }
 
 -- the day that it counts, with ledger and tape buffer
-abbrev pub dayOf : List ℕ → List ℕ → Progress → Day
-dayOf l t p = record { ledger = l; tape = t; judged = p .judged; published = p .published }
+abbrev pub dayOf : Lent → Progress → Day
+dayOf lent p = record { lent = lent; judged = p .judged; published = p .published }
 
 -- the step at the front of what is left of the input
-abbrev pub stepAt : List ℕ → List ℕ → List ℕ → Progress → Step
-stepAt l t input p = step (dayOf l t p) (drop (p .at) input)
+abbrev pub stepAt : Lent → List ℕ → Progress → Step
+stepAt lent input p = step (dayOf lent p) (drop (p .at) input)
 
 abbrev pub progressAfter : Progress → Step → Progress
 progressAfter p s =
     record { at = p .at + s .taken; used = p .used + length (s .line); judged = s .after .judged; published = s .after .published; «is_open» = p .«is_open» }
 
 -- from p₀ to p the messages of the input were judged, one after the other: so many as were counted, and none was left out
-pub record Reached (l₀ t₀ input : List ℕ) (p₀ : Progress) (l t : List ℕ) (p : Progress) : Type 0 where
+pub record Reached (lent₀ : Lent) (input : List ℕ) (p₀ : Progress) (lent : Lent) (p : Progress) : Type 0 where
   pub counted : p₀ .judged ≤ p .judged
-  pub day : dayOf l t p ≡ afterMessages (p .judged - p₀ .judged) (dayOf l₀ t₀ p₀) (drop (p₀ .at) input)
-  pub rest : drop (p .at) input ≡ restAfter (p .judged - p₀ .judged) (dayOf l₀ t₀ p₀) (drop (p₀ .at) input)
+  pub day : dayOf lent p ≡ afterMessages (p .judged - p₀ .judged) (dayOf lent₀ p₀) (drop (p₀ .at) input)
+  pub rest : drop (p .at) input ≡ restAfter (p .judged - p₀ .judged) (dayOf lent₀ p₀) (drop (p₀ .at) input)
 
 -- before the first message: the first line waits
 abbrev pub atStart : Progress

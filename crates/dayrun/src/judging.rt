@@ -3,6 +3,7 @@ ghost use mathlib.Core.Path.{_≡_};
 ghost use Prim.Native.Nat.{_+_, _^_, _<_, _≤_};
 ghost use lib.ListN.{length};
 ghost use Rattle.octets.specs.Part.{splice};
+ghost use Rattle.submission.specs.Lent.{lentOf};
 ghost use Rattle.day.specs.Report.{longestLine, reportLine};
 ghost use Rattle.dayrun.specs.Day.{mostMessages, linesOf};
 ghost use Rattle.dayrun.specs.Blocks.{Judged-at-once};
@@ -70,10 +71,9 @@ pub fn judge_next(
     requires { ⌜ p .used + longestLine ≤ length (now out) ⌝ }
     requires { ⌜ p .published ≤ p .judged ⌝ }
     requires { ⌜ p .judged < mostMessages ⌝ }
-    ensures { λ r. ⌜ r ≡ progressAfter p (stepAt (now (ledger .entry)) (now (tape .entry)) (now (input .entry)) p) ⌝ }
-    ensures { λ _. ⌜ now (out .exit) ≡ splice (now (out .entry)) (p .used) (stepAt (now (ledger .entry)) (now (tape .entry)) (now (input .entry)) p .line) ⌝ }
-    ensures { λ _. ⌜ now (ledger .exit) ≡ stepAt (now (ledger .entry)) (now (tape .entry)) (now (input .entry)) p .after .ledger ⌝ }
-    ensures { λ _. ⌜ now (tape .exit) ≡ stepAt (now (ledger .entry)) (now (tape .entry)) (now (input .entry)) p .after .tape ⌝ }
+    ensures { λ r. ⌜ r ≡ progressAfter p (stepAt (lentOf (now (ledger .entry)) (now (tape .entry))) (now (input .entry)) p) ⌝ }
+    ensures { λ _. ⌜ now (out .exit) ≡ splice (now (out .entry)) (p .used) (stepAt (lentOf (now (ledger .entry)) (now (tape .entry))) (now (input .entry)) p .line) ⌝ }
+    ensures { λ _. ⌜ lentOf (now (ledger .exit)) (now (tape .exit)) ≡ stepAt (lentOf (now (ledger .entry)) (now (tape .entry))) (now (input .entry)) p .after .lent ⌝ }
     ensures { λ r. ⌜ Steps (length (now (input .entry))) p r ⌝ }
     ensures { λ _. ⌜ Judged-at-once ⌝ }
 {

@@ -24,7 +24,7 @@ const LEDGER_SIZE: usize = HEADER_SIZE + ROWS * ROW_SIZE;
 
 // The ledger before the first message.
 fn new_ledger() -> [u8; LEDGER_SIZE]
-    ensures { λ r. ⌜ r ≡ newDay .ledger ⌝ }
+    ensures { λ r. ⌜ r ≡ newDay .lent .ledger ⌝ }
     ensures { λ _. ⌜ Examples ⌝ }
 {
     let mut ledger = [0u8; LEDGER_SIZE];

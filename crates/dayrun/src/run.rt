@@ -5,6 +5,7 @@ ghost use lib.ListN.{length};
 ghost use lib.Dec.{ltb};
 ghost use Rattle.octets.specs.Choice.{choose};
 ghost use Rattle.octets.specs.Part.{splice};
+ghost use Rattle.submission.specs.Lent.{lentOf};
 ghost use Rattle.day.specs.Frame.{longestFrame};
 ghost use Rattle.day.specs.Report.{heading, longestLine, lastLine};
 ghost use Rattle.dayrun.specs.Day.{newDay};
@@ -65,7 +66,7 @@ fn judge_block(
 ) -> Progress
     requires { ⌜ Within (length (now input)) writeSize start ⌝ }
     requires { ⌜ writeSize + longestLine ≤ length (now out) ⌝ }
-    ensures { λ r. ⌜ Reached (now (ledger .entry)) (now (tape .entry)) (now (input .entry)) start (now (ledger .exit)) (now (tape .exit)) r ⌝ }
+    ensures { λ r. ⌜ Reached (lentOf (now (ledger .entry)) (now (tape .entry))) (now (input .entry)) start (lentOf (now (ledger .exit)) (now (tape .exit))) r ⌝ }
     ensures { λ r. ⌜ Within (length (now (input .entry))) writeSize r ⌝ }
     ensures { λ r. ⌜ Leaves (now (input .entry)) r ⌝ }
 {
@@ -106,8 +107,7 @@ fn before_read(out: &[u8], waits: bool, p: Progress) -> Progress
 
 // Reads and judges block by block until the input ends.
 pub fn run(ledger: &mut [u8], tape: &mut [u8], input: &mut [u8], out: &mut [u8])
-    requires { ⌜ now ledger ≡ newDay .ledger ⌝ }
-    requires { ⌜ now tape ≡ newDay .tape ⌝ }
+    requires { ⌜ lentOf (now ledger) (now tape) ≡ newDay .lent ⌝ }
     requires { ⌜ longestFrame + blockSize ≤ length (now input) ⌝ }
     requires { ⌜ writeSize + longestLine ≤ length (now out) ⌝ }
 {

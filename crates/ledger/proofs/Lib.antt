@@ -6,3 +6,4 @@ pub mod RowAfterLaws
 pub mod RowFields
 pub mod ReadBack
 pub mod LineLaws
+pub mod SwapLaws

@@ -17,6 +17,7 @@ use Rattle.actions.specs.Actions.{isNew, writesLine}
 use Rattle.actions.specs.Statuses.{unknown}
 use Rattle.ledger.specs.Layout.{u32, u64, rowsAt, nextAt, statusAt, lengthAt, utiAt, utiSize, identifierAt, termsAt, tailAt, tailSize, rowSize, rowStart}
 use Rattle.ledger.specs.Header.{rowsInUse}
+use Rattle.ledger.specs.declared.search.Swap.{Swap}
 
 -- ---- what a row says, whatever its bytes
 
@@ -69,6 +70,14 @@ swapStatus l u = choose (isKnown l u) (statusOf (swapRow l u)) unknown
 
 unfoldable pub swapIdentifier : List ℕ → List ℕ → ℕ
 swapIdentifier l u = choose (isKnown l u) (identifierOf (swapRow l u)) 0
+
+-- the execution time that its row has
+unfoldable pub swapTime : List ℕ → List ℕ → List ℕ
+swapTime l u = choose (isKnown l u) (storedTime (swapRow l u)) []
+
+-- what a ledger has of a swap beside its time; an unknown swap has the place behind the rows in use
+abbrev pub swapIn : List ℕ → List ℕ → Swap
+swapIn l u = record { known = isKnown l u; place = placeOf l u; status = swapStatus l u; identifier = swapIdentifier l u }
 
 -- ---- what is written of a row
 

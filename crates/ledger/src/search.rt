@@ -3,7 +3,11 @@ ghost use mathlib.Core.Path.{_≡_};
 ghost use Prim.Native.Nat.{_+_, _≤_};
 ghost use lib.ListN.{length};
 ghost use Rattle.ledger.specs.Layout.{rowSize, rowStart};
-ghost use Rattle.ledger.specs.Rows.{rowAt, statusOf, identifierOf, storedTerms, storedTime, utiLength, hasBytes, placeIn};
+ghost use Rattle.ledger.specs.Rows.{rowAt, statusOf, identifierOf, storedTerms, storedTime, utiLength, hasBytes, placeIn, swapIn};
+ghost use Rattle.ledger.specs.Header.{rowsInUse};
+ghost use mathlib.Core.Bool.{true};
+ghost use mathlib.Core.List.{[]};
+ghost use Rattle.octets.specs.Choice.{choose};
 use crate::layout::HEADER_SIZE;
 use crate::layout::IDENTIFIER_AT;
 use crate::layout::LENGTH_AT;
@@ -12,11 +16,21 @@ use crate::layout::STATUS_AT;
 use crate::layout::TERMS_AT;
 use crate::layout::U64;
 use crate::layout::UTI_AT;
+use actions::UNKNOWN;
 use octets::part_of;
 use octets::read_at;
 use octets::same_long;
 use terms::SIZE;
 use terms::TIME_SIZE;
+
+// What a ledger has of a swap: whether it has a row, where the row stands, its status and its last identifier. An unknown swap has the
+// place behind the rows in use, and no status or identifier.
+pub struct Swap {
+    pub known: bool,
+    pub place: usize,
+    pub status: u8,
+    pub identifier: u64,
+}
 
 // The row at a place: a part of the ledger itself.
 fn row_at<'a>(l: &'a [u8], k: usize) -> &'a [u8]
@@ -29,7 +43,7 @@ fn row_at<'a>(l: &'a [u8], k: usize) -> &'a [u8]
 }
 
 // The status of the row at a place.
-pub fn status_at(l: &[u8], k: usize) -> u8
+fn status_at(l: &[u8], k: usize) -> u8
     requires { ⌜ rowStart (k + 1) ≤ length (now l) ⌝ }
     ensures { λ r. ⌜ r ≡ statusOf (rowAt (now (l .entry)) k) ⌝ }
 {
@@ -38,7 +52,7 @@ pub fn status_at(l: &[u8], k: usize) -> u8
 }
 
 // The swap's last identifier, as the row at a place has it.
-pub fn identifier_at(l: &[u8], k: usize) -> u64
+fn identifier_at(l: &[u8], k: usize) -> u64
     requires { ⌜ rowStart (k + 1) ≤ length (now l) ⌝ }
     ensures { λ r. ⌜ r ≡ identifierOf (rowAt (now (l .entry)) k) ⌝ }
 {
@@ -54,7 +68,7 @@ pub fn terms_at<'a>(l: &'a [u8], k: usize) -> &'a [u8]
 }
 
 // The execution time of the row at a place.
-pub fn time_at<'a>(l: &'a [u8], k: usize) -> &'a [u8]
+fn time_at<'a>(l: &'a [u8], k: usize) -> &'a [u8]
     requires { ⌜ rowStart (k + 1) ≤ length (now l) ⌝ }
     ensures { λ r. ⌜ now r ≡ storedTime (rowAt (now (l .entry)) k) ⌝ }
 {
@@ -97,4 +111,37 @@ pub fn find_row(l: &[u8], rows: usize, uti: &[u8]) -> usize
         k += 1;
     }
     k
+}
+
+// Looks up the swap among the rows in use.
+pub fn find_swap(l: &[u8], rows: usize, uti: &[u8]) -> Swap
+    requires { ⌜ (rows ≡ rowsInUse (now l)) × (rowStart rows ≤ length (now l)) ⌝ }
+    ensures { λ r. ⌜ r ≡ swapIn (now (l .entry)) (now (uti .entry)) ⌝ }
+{
+    let place = find_row(l, rows, uti);
+    if place == rows {
+        return Swap {
+            known: false,
+            place,
+            status: UNKNOWN,
+            identifier: 0,
+        };
+    }
+    Swap {
+        known: true,
+        place,
+        status: status_at(l, place),
+        identifier: identifier_at(l, place),
+    }
+}
+
+// The execution time of a known swap's row; nothing for an unknown swap.
+pub fn time_of<'a>(l: &'a [u8], known: bool, place: usize) -> &'a [u8]
+    requires { ⌜ (known ≡ true → rowStart (place + 1) ≤ length (now l)) ⌝ }
+    ensures { λ r. ⌜ now r ≡ choose known (storedTime (rowAt (now (l .entry)) place)) [] ⌝ }
+{
+    if known {
+        return time_at(l, place);
+    }
+    &l[..0]
 }

@@ -2,10 +2,10 @@
 use Prim.Native.Nat.{ℕ, zero, suc, _-_, _^_, _<_, _≤_}
 use mathlib.Core.Bool.{Bool, true, false}
 use mathlib.Core.Path.{_≡_, refl, sym, ap, _∙_}
-use mathlib.Core.List.{List}
 use native.Mathlib.Omega.{arith}
 use lib.Dec.{leb}
 use borrow.Author.Tests.{leb-true}
+use Rattle.octets.specs.Bytes.{Bytes}
 use Rattle.octets.specs.Choice.{choose}
 use Rattle.octets.proofs.ChoiceLaws.{both-second, both-false, not-not}
 use Rattle.values.specs.Run.{within}
@@ -13,9 +13,10 @@ use Rattle.actions.specs.Actions.{writesLine}
 use Rattle.actions.specs.Statuses.{live, ported}
 use Rattle.ledger.specs.Layout.{u32, identifierLimit}
 use Rattle.ledger.specs.Header.{nextIdentifier, headerRight}
-use Rattle.ledger.specs.Rows.{statusOf, identifierOf, isKnown, swapRow, swapIdentifier}
+use Rattle.ledger.specs.Rows.{isKnown, swapStatus, swapIdentifier, swapIn}
 use Rattle.ledger.proofs.RightHeader.{right-header}
 use Rattle.submission.specs.Opening.{Limits}
+use Rattle.submission.specs.Lent.{Lent}
 use Rattle.submission.specs.Submission.{rowRight, hasWrongRow, submitted}
 use Rattle.submission.specs.Status.{asked}
 use Rattle.submission.proofs.Demand1.{question-answers}
@@ -31,35 +32,35 @@ pub carried : (a b : Answer) → a ≡ b → b .identifier < carriedLimit → a 
 carried a b e h = rw e h
 
 -- a submission answers the next identifier or 0
-pub submission-small : (limits : Limits) (l t m : List ℕ) → limits .largest < 256 ^ u32 → submitted limits l t m .identifier < carriedLimit
-submission-small limits l t m small = by (decision limits l t m) refl
+pub submission-small : (limits : Limits) (lent : Lent) (m : Bytes) → limits .largest < 256 ^ u32 → submitted limits lent m .identifier < carriedLimit
+submission-small limits lent m small = by (decision limits lent m) refl
   where
-    is : (d : Decision) → decision limits l t m ≡ d → submitted limits l t m .identifier ≡ decisionAnswer d .identifier
-    is d e = sym (ap (λ (a : Answer). a .identifier) (decision-answers limits l t m)) ∙ ap (λ x. decisionAnswer x .identifier) e
+    is : (d : Decision) → decision limits lent m ≡ d → submitted limits lent m .identifier ≡ decisionAnswer d .identifier
+    is d e = sym (ap (λ (a : Answer). a .identifier) (decision-answers limits lent m)) ∙ ap (λ x. decisionAnswer x .identifier) e
 
     least : (b : Bool) (n : ℕ) → n ≤ identifierLimit → choose b n 0 ≤ identifierLimit
     least true n h = h
     least false n h = omega arith
 
-    by : (d : Decision) → decision limits l t m ≡ d → submitted limits l t m .identifier < carriedLimit
+    by : (d : Decision) → decision limits lent m ≡ d → submitted limits lent m .identifier < carriedLimit
     by (Refused v e) g = omega (arith, is (Refused v e) g)
-    by (Value s) g = omega (arith, is (Value s) g, least (writesLine (s .action)) (s .next) (fitting limits l t m s small g .next))
+    by (Value s) g = omega (arith, is (Value s) g, least (writesLine (s .action)) (s .next) (fitting limits lent m s small g .next))
 
 -- a right row has an identifier below the next one
-swap-small : (largest : ℕ) (l u : List ℕ) → headerRight largest l ≡ true → hasWrongRow l u ≡ false → swapIdentifier l u ≤ identifierLimit
+swap-small : (largest : ℕ) (l u : Bytes) → headerRight largest l ≡ true → hasWrongRow (nextIdentifier l) (swapIn l u) ≡ false → swapIdentifier l u ≤ identifierLimit
 unfolding swapIdentifier hasWrongRow rowRight
 swap-small largest l u h w = by (isKnown l u) refl
   where
-    by : (b : Bool) → isKnown l u ≡ b → choose b (identifierOf (swapRow l u)) 0 ≤ identifierLimit
-    by false k = omega arith
+    by : (b : Bool) → isKnown l u ≡ b → swapIdentifier l u ≤ identifierLimit
+    by false k = rw k (omega arith)
     by true k =
-        let i : ℕ = identifierOf (swapRow l u) in
-        let right : rowRight (nextIdentifier l) (swapRow l u) ≡ true = not-not _ (both-false (isKnown l u) _ w k) in
-        let range : within 1 (nextIdentifier l - 1) i ≡ true = both-second (within live ported (statusOf (swapRow l u))) (within 1 (nextIdentifier l - 1) i) right in
+        let i : ℕ = swapIdentifier l u in
+        let right : rowRight (nextIdentifier l) (swapIn l u) ≡ true = not-not _ (both-false (isKnown l u) _ w k) in
+        let range : within 1 (nextIdentifier l - 1) i ≡ true = both-second (within live ported (swapStatus l u)) (within 1 (nextIdentifier l - 1) i) right in
         omega (arith, leb-true i (nextIdentifier l - 1) (both-second (leb 1 i) (leb i (nextIdentifier l - 1)) range), right-header largest l h .next)
 
 -- the status question answers the swap's last identifier or 0
-pub question-small : (limits : Limits) (l u : List ℕ) → asked limits l u .identifier < carriedLimit
+pub question-small : (limits : Limits) (l u : Bytes) → asked limits l u .identifier < carriedLimit
 question-small limits l u = by (asked limits l u .verdict) refl
   where
     by : (v : ℕ) → asked limits l u .verdict ≡ v → asked limits l u .identifier < carriedLimit

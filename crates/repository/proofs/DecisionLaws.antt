@@ -1,14 +1,18 @@
 -- The decision where it stops, and what is left where the message has been judged. Assumes nothing.
-use Prim.Native.Nat.{ℕ}
+use Prim.Native.Nat.{ℕ, _≤_}
 use mathlib.Core.Bool.{Bool, true, false}
 use mathlib.Core.Path.{_≡_, refl, sym, ap, _∙_, subst}
-use mathlib.Core.List.{List, _++_}
+use mathlib.Core.List.{List, [], _++_}
+use native.Mathlib.Omega.{arith}
+use lib.ListN.{length}
 use lib.Dec.{eqb}
 use borrow.Author.Tests.{eqb-true, eqb-false}
+use Rattle.octets.specs.Bytes.{Bytes}
 use Rattle.octets.specs.Choice.{choose}
 use Rattle.actions.specs.declared.Action.{Action}
 use Rattle.actions.specs.declared.Checked.{Checked}
 use Rattle.actions.specs.declared.Checked.the-variants as checked
+use Rattle.actions.specs.Actions.{isFull}
 use Rattle.rules.specs.declared.Judged.{Judged}
 use Rattle.rules.specs.declared.Judged.the-variants as judged
 use Rattle.rules.specs.Verdicts.{layoutWrong}
@@ -17,47 +21,72 @@ use Rattle.rules.specs.Rules as rules
 use Rattle.rules.specs.Rules.{rulesFor, verdict, conclude}
 use Rattle.rules.proofs.FindingLaws.{stops-at, all-passed, passed-then, broken-then}
 use Rattle.rules.proofs.VerdictLaws.{differ}
-use Rattle.submission.specs.Verdicts.{ledgerWrong}
+use Rattle.ledger.specs.Layout.{rowStart}
+use Rattle.ledger.specs.declared.header.Header.{Header}
+use Rattle.ledger.specs.declared.search.Swap.{Swap}
+use Rattle.ledger.specs.Header.{rowsInUse, nextIdentifier, headerOf}
+use Rattle.ledger.specs.Rows.{rowAt, storedTime, swapTime, swapIn}
+use Rattle.submission.specs.Verdicts.{ledgerWrong, rowWrong}
 use Rattle.submission.specs.Opening.{Limits}
-use Rattle.submission.specs.Submission.{actionIn, swapRules, afterRules, submissionRules, rulesOn, verdictOn}
+use Rattle.submission.specs.Lent.{Lent}
+use Rattle.submission.specs.Submission.{swapOf, actionIn, capOn, hasWrongRow, swapRules, rulesIn, afterRules, submissionRules, rulesOn, verdictOn}
 use Rattle.repository.specs.declared.decide.Decision.{Decision}
 use Rattle.repository.specs.declared.decide.Decision.the-variants.{Refused, Value}
-use Rattle.repository.specs.Decision.{decided, decision, decisionFrom}
+use Rattle.repository.specs.Decision.{acceptanceFor, decidedOn, decision, decisionFrom, decidedFrom, decisionIn, HeaderRead}
 
-refuses : (n e : ℕ) (r : Checked) (l m : List ℕ) → eqb n 0 ≡ false → decided (n, e) r l m ≡ Refused n e
+refuses : (n e : ℕ) (r : Checked) (l m : Bytes) → eqb n 0 ≡ false → decidedOn (n, e) r l m ≡ Refused n e
 refuses n e (checked.Fault code) l m h = refl
 refuses n e (checked.Value a) l m h = rw h
 
 -- what is left where a message has been judged: nothing where it is refused, the rules after its own where it is not
-abbrev pub Left : List ℕ → List ℕ → Decision → Judged → Type 0
+abbrev pub Left : Bytes → Bytes → Decision → Judged → Type 0
 Left l m d (judged.Refused v e) = d ≡ Refused v e
-Left l m d (judged.Value a) = d ≡ decided (firstBroken (swapRules a l m)) (checked.Value a) l m
+Left l m d (judged.Value a) = d ≡ decisionIn a l m
 
-module _ (longest : ℕ) (l m : List ℕ) where
+module _ (longest : ℕ) (l m : Bytes) where
   module _ (a : Action) where
     abbrev rs : List Rule
     rs = rulesFor (checked.Value a) longest m
 
-    left-with : (b : Bool) → eqb (firstBroken rs .0) 0 ≡ b → Left l m (decided (firstBroken (rs ++ swapRules a l m)) (checked.Value a) l m) (choose b (judged.Value a) (judged.Refused (firstBroken rs .0) (firstBroken rs .1)))
-    left-with true h = ap (λ v. decided v (checked.Value a) l m) (passed-then rs (swapRules a l m) (all-passed rs (differ (checked.Value a) longest m) (eqb-true _ _ h)))
-    left-with false h = rw (broken-then rs (swapRules a l m) (eqb-false _ _ h), h)
+    left-with : (b : Bool) → eqb (firstBroken rs .0) 0 ≡ b → Left l m (decidedOn (firstBroken (rs ++ rulesIn a l m)) (checked.Value a) l m) (choose b (judged.Value a) (judged.Refused (firstBroken rs .0) (firstBroken rs .1)))
+    unfolding decisionIn
+    left-with true h = ap (λ v. decidedOn v (checked.Value a) l m) (passed-then rs (rulesIn a l m) (all-passed rs (differ (checked.Value a) longest m) (eqb-true _ _ h)))
+    left-with false h = rw (broken-then rs (rulesIn a l m) (eqb-false _ _ h), h)
 
-  left-by : (r : Checked) → Left l m (decided (firstBroken (rulesFor r longest m ++ afterRules r l m)) r l m) (conclude (firstBroken (rulesFor r longest m)) r)
+  left-by : (r : Checked) → Left l m (decidedOn (firstBroken (rulesFor r longest m ++ afterRules r l m)) r l m) (conclude (firstBroken (rulesFor r longest m)) r)
   unfolding rulesFor
   left-by (checked.Fault code) = refl
   left-by (checked.Value a) = left-with a (eqb (firstBroken (rs a) .0) 0) refl
 
 -- a test that stops the decision
-pub test-stops : (n : ℕ) (limits : Limits) (l t m : List ℕ) → eqb n 0 ≡ false → findingOf n (rulesOn limits l t m) ≡ broken 0 → Refused n 0 ≡ decisionFrom n limits l t m
+pub test-stops : (n : ℕ) (limits : Limits) (lent : Lent) (m : Bytes) → eqb n 0 ≡ false → findingOf n (rulesOn limits lent m) ≡ broken 0 → Refused n 0 ≡ decisionFrom n limits lent m
 unfolding decisionFrom
-test-stops n limits l t m some f = sym (ap (λ v. decided v (actionIn m) l m) (stops-at n 0 (rulesOn limits l t m) f) ∙ refuses n 0 (actionIn m) l m some)
+test-stops n limits lent m some f = sym (ap (λ v. decidedOn v (actionIn m) (lent .ledger) m) (stops-at n 0 (rulesOn limits lent m) f) ∙ refuses n 0 (actionIn m) (lent .ledger) m some)
 
-module _ (limits : Limits) (l t m : List ℕ) where
+module _ (limits : Limits) (lent : Lent) (m : Bytes) where
   -- 3 is the first rule
-  pub from-first : decisionFrom ledgerWrong limits l t m ≡ decision limits l t m
+  pub from-first : decisionFrom ledgerWrong limits lent m ≡ decision limits lent m
   unfolding decision decisionFrom verdictOn submissionRules fromRule
   from-first = refl
 
-  pub message-left : (j : Judged) → rules.judged (limits .longest) m ≡ j → Left l m (decisionFrom layoutWrong limits l t m) j
+  pub message-left : (j : Judged) → rules.judged (limits .longest) m ≡ j → Left (lent .ledger) m (decisionFrom layoutWrong limits lent m) j
   unfolding rules.judged verdict decisionFrom submissionRules rulesFor fromRule
-  message-left j e = subst (Left l m (decisionFrom layoutWrong limits l t m)) e (left-by (limits .longest) l m (actionIn m))
+  message-left j e = subst (Left (lent .ledger) m (decisionFrom layoutWrong limits lent m)) e (left-by (limits .longest) (lent .ledger) m (actionIn m))
+
+-- rules 14 to 18 with what was read of a ledger
+pub decision-is : (a : Action) (l m : Bytes) (h : Header) (s : Swap) (time : Bytes) (cap : ℕ) → h ≡ headerOf l → s ≡ swapIn l (swapOf m) → time ≡ choose (s .known) (storedTime (rowAt l (s .place))) []
+    → cap ≡ choose (isFull a) (capOn (h .caps) m) 0 → decidedFrom rowWrong h s time m (acceptanceFor a h s cap) ≡ decisionIn a l m
+unfolding decisionIn decidedFrom swapRules fromRule swapTime headerOf
+decision-is a l m h s time cap e g t c = rw (t, c, e, g)
+
+-- rows in use, as a header that was read has them
+pub rows-read : (l : Bytes) (h : Header) → HeaderRead h l → (h .rows ≡ rowsInUse l) × (rowStart (rowsInUse l) ≤ length l)
+unfolding headerOf
+rows-read l h r =
+    let rows : h .rows ≡ rowsInUse l = ap (λ (x : Header). x .rows) (r .0) in
+    (rows, omega (arith, rows, r .1))
+
+-- rule 14 with what was read
+pub wrong-read : (l u : Bytes) (h : Header) (s : Swap) (b : Bool) → h ≡ headerOf l → s ≡ swapIn l u → b ≡ hasWrongRow (h .next) s → hasWrongRow (nextIdentifier l) (swapIn l u) ≡ b
+unfolding headerOf
+wrong-read l u h s b e g w = sym (w ∙ rw (e, g))

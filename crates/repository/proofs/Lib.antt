@@ -1,5 +1,4 @@
 pub mod AnswerLaws
-pub mod SwapLaws
 pub mod DecisionLaws
 pub mod AcceptanceLaws
 pub mod AnswerSizes

@@ -1,25 +1,22 @@
 // What an accepted message writes: document 01, 'The ledger' and 'The tape line'. It cannot fail.
 ghost use Prim.Native.Nat.{_+_, _≤_};
-ghost use mathlib.Core.Bool.{true};
 ghost use mathlib.Core.Path.{_≡_};
 ghost use lib.ListN.{length};
 ghost use Rattle.octets.specs.Choice.{choose};
 ghost use Rattle.actions.specs.Actions.{isFull};
-ghost use Rattle.terms.specs.Terms.{termsSize};
+ghost use Rattle.notional.specs.Masking.{largestCap};
+ghost use Rattle.terms.specs.Terms.{termsSize, termsOf};
 ghost use Rattle.ledger.specs.Layout.{rowStart, lineSize};
-ghost use Rattle.ledger.specs.Header.{areCaps};
 ghost use Rattle.ledger.specs.Rows.{rowAt, storedTerms};
 ghost use Rattle.ledger.specs.Line.{line};
-ghost use Rattle.submission.specs.Submission.{maskedTerms, ledgerFor, tapeAfter, tapeFor};
+ghost use Rattle.submission.specs.Lent.{lentOf};
+ghost use Rattle.submission.specs.Submission.{tapeAfter, lentFor};
 ghost use Rattle.repository.specs.Decision.{Fitting};
 use crate::decide::Acceptance;
 use actions::Action;
 use actions::is_full;
 use actions::writes_line;
-use elements::ASSET_CLASS;
 use elements::UTI;
-use ledger::Caps;
-use ledger::cap_for;
 use ledger::store_row;
 use ledger::terms_at;
 use ledger::update_header;
@@ -30,12 +27,12 @@ use terms::SIZE;
 use terms::write_terms;
 
 // The masked terms of a full message; those that the swap's row has for any other.
-fn collect_terms(dst: &mut [u8], l: &[u8], place: usize, a: Action, caps: Caps, m: &[u8])
-    requires { ⌜ (length (now dst) ≡ termsSize) × (rowStart (place + 1) ≤ length (now l)) × (areCaps caps ≡ true) ⌝ }
-    ensures { λ _. ⌜ now (dst .exit) ≡ choose (isFull a) (maskedTerms caps (now (m .entry))) (storedTerms (rowAt (now (l .entry)) place)) ⌝ }
+fn collect_terms(dst: &mut [u8], l: &[u8], place: usize, a: Action, cap: u64, m: &[u8])
+    requires { ⌜ (length (now dst) ≡ termsSize) × (rowStart (place + 1) ≤ length (now l)) × (cap ≤ largestCap) ⌝ }
+    ensures { λ _. ⌜ now (dst .exit) ≡ choose (isFull a) (termsOf cap (now (m .entry))) (storedTerms (rowAt (now (l .entry)) place)) ⌝ }
 {
     if is_full(a) {
-        write_terms(dst, m, cap_for(caps, element(m, ASSET_CLASS)));
+        write_terms(dst, m, cap);
         return;
     }
     copy(dst, terms_at(l, place));
@@ -53,13 +50,12 @@ fn publish(tape: &mut [u8], a: Action, identifier: u64, previous: u64, m: &[u8],
 
 // Writes the line, the row and the header's two numbers.
 pub fn apply(l: &mut [u8], tape: &mut [u8], m: &[u8], acceptance: Acceptance)
-    requires { ⌜ Fitting (now l) (now tape) (now m) acceptance ⌝ }
-    ensures { λ _. ⌜ now (l .exit) ≡ ledgerFor (acceptance .action) (now (l .entry)) (now (m .entry)) ⌝ }
-    ensures { λ _. ⌜ now (tape .exit) ≡ tapeFor (acceptance .action) (now (l .entry)) (now (tape .entry)) (now (m .entry)) ⌝ }
+    requires { ⌜ Fitting (lentOf (now l) (now tape)) (now m) acceptance ⌝ }
+    ensures { λ _. ⌜ lentOf (now (l .exit)) (now (tape .exit)) ≡ lentFor (acceptance .action) (lentOf (now (l .entry)) (now (tape .entry))) (now (m .entry)) ⌝ }
 {
     let a = acceptance.action;
     let mut terms = [b' '; SIZE];
-    collect_terms(&mut terms, l, acceptance.place, a, acceptance.caps, m);
+    collect_terms(&mut terms, l, acceptance.place, a, acceptance.cap, m);
     publish(tape, a, acceptance.next, acceptance.previous, m, &terms);
     store_row(
         l,

@@ -1,26 +1,23 @@
 // What a message comes to: rules 3 to 18 in checking order. Reads only.
-ghost use Prim.Native.Nat.{ℕ, _+_, _≤_};
-ghost use mathlib.Core.List.{List};
-ghost use mathlib.Core.Bool.{true, not};
+ghost use Prim.Native.Nat.{ℕ};
+ghost use mathlib.Core.Bool.{not};
 ghost use mathlib.Core.Path.{_≡_};
-ghost use lib.ListN.{length};
 ghost use lib.Dec.{eqb};
-ghost use Rattle.octets.specs.Choice.{both};
+ghost use Rattle.octets.specs.Bytes.{Bytes};
+ghost use Rattle.octets.specs.Choice.{choose, both};
 ghost use Rattle.octets.specs.Same.{sameBytes};
 ghost use Rattle.message.specs.Values.{value};
-ghost use Rattle.actions.specs.Actions.{isNew, writesLine};
+ghost use Rattle.actions.specs.Actions.{isFull, isNew, writesLine};
 ghost use Rattle.actions.specs.Statuses.{repeatsTime};
 ghost use Rattle.elements.specs.Codes.{executionTime};
-ghost use Rattle.ledger.specs.Layout.{rowStart, identifierLimit};
+ghost use Rattle.ledger.specs.Layout.{identifierLimit};
+ghost use Rattle.ledger.specs.declared.search.Swap.{Swap as Known};
 ghost use Rattle.rules.specs.Verdicts.{layoutWrong};
-ghost use Rattle.ledger.specs.Rows.{rowAt, storedTime};
 ghost use Rattle.submission.specs.Verdicts.{tapeShort, rowWrong, notAdmitted, otherTime, ledgerFull, identifiersSpent};
-ghost use Rattle.submission.specs.Submission.{swapOf};
+ghost use Rattle.submission.specs.Lent.{Buffers, lentOf};
+ghost use Rattle.submission.specs.Submission.{capOn, hasWrongRow, hasOtherTime, findsFull, findsSpent};
 ghost use Rattle.repository.specs.Answers.{limitsOf};
-ghost use Rattle.repository.specs.Decision.{swapIn, refusedAs, decision, decisionFrom, swapDecisionFrom, HeaderRead, Admitted};
-use crate::swap::Swap;
-use crate::swap::SwapCheck;
-use crate::swap::find_swap;
+ghost use Rattle.repository.specs.Decision.{acceptanceFor, decision, decisionFrom, decidedFrom, decisionIn, HeaderRead};
 use crate::verdicts::IDENTIFIERS_SPENT;
 use crate::verdicts::LEDGER_FULL;
 use crate::verdicts::LEDGER_WRONG;
@@ -29,11 +26,15 @@ use crate::verdicts::OTHER_TIME;
 use crate::verdicts::ROW_WRONG;
 use crate::verdicts::TAPE_SHORT;
 use actions::Action;
+use actions::LIVE;
 use actions::NO_STEP;
+use actions::PORTED;
+use actions::is_full;
 use actions::is_new;
 use actions::repeats_time;
 use actions::status_after;
 use actions::writes_line;
+use elements::ASSET_CLASS;
 use elements::EXECUTION_TIME;
 use elements::UTI;
 use ledger::Caps;
@@ -41,14 +42,18 @@ use ledger::Header;
 use ledger::HeaderCheck;
 use ledger::IDENTIFIER_LIMIT;
 use ledger::LINE_SIZE;
+use ledger::Swap;
+use ledger::cap_for;
+use ledger::find_swap;
 use ledger::read_header;
-use ledger::time_at;
+use ledger::time_of;
 use message::element;
 use octets::same;
 use rules::Judged;
 use rules::judge;
 
-// What an accepted message goes on with: its action, the place of the swap's row, the swap's next status and last identifier, and the header's numbers.
+// What an accepted message goes on with: its action, the place of the swap's row, the swap's next status and last identifier, the header's
+// numbers, and the cap that applies.
 pub struct Acceptance {
     pub action: Action,
     pub place: usize,
@@ -56,7 +61,7 @@ pub struct Acceptance {
     pub previous: u64,
     pub rows: u64,
     pub next: u64,
-    pub caps: Caps,
+    pub cap: u64,
 }
 
 // A refusal, with verdict and element, or what an accepted message goes on with.
@@ -65,52 +70,70 @@ pub enum Decision {
     Value(Acceptance),
 }
 
-// A refusal under the rules of the message alone.
-fn refused_as(judged: Judged) -> Decision
-    ensures { λ r. ⌜ r ≡ refusedAs judged ⌝ }
+// The cap that applies to a full message; other messages have none.
+fn cap_of(caps: Caps, a: Action, m: &[u8]) -> u64
+    ensures { λ r. ⌜ r ≡ choose (isFull a) (capOn caps (now (m .entry))) 0 ⌝ }
 {
-    match judged {
-        Judged::Refused(verdict, element) => Decision::Refused(verdict, element),
-        Judged::Value(_) => Decision::Refused(0, 0),
+    if !is_full(a) {
+        return 0;
     }
+    cap_for(caps, element(m, ASSET_CLASS))
+}
+
+// Whether the swap has a row, and that row is wrong (14).
+pub fn has_wrong_row(next: u64, swap: Swap) -> bool
+    ensures { λ r. ⌜ r ≡ hasWrongRow next swap ⌝ }
+{
+    if !swap.known {
+        return false;
+    }
+    if swap.status < LIVE {
+        return true;
+    }
+    if PORTED < swap.status {
+        return true;
+    }
+    if swap.identifier < 1 {
+        return true;
+    }
+    next <= swap.identifier
 }
 
 // Whether a message has to repeat the stored execution time and has another one (16).
-fn has_other_time(l: &[u8], place: usize, a: Action, m: &[u8]) -> bool
-    requires { ⌜ (repeatsTime a ≡ true → rowStart (place + 1) ≤ length (now l)) ⌝ }
-    ensures { λ r. ⌜ r ≡ both (repeatsTime a) (not (sameBytes (value executionTime (now (m .entry))) (storedTime (rowAt (now (l .entry)) place)))) ⌝ }
+fn has_other_time(a: Action, time: &[u8], m: &[u8]) -> bool
+    ensures { λ r. ⌜ r ≡ hasOtherTime a (now (time .entry)) (now (m .entry)) ⌝ }
 {
     if !repeats_time(a) {
         return false;
     }
-    !same(element(m, EXECUTION_TIME), time_at(l, place))
+    !same(element(m, EXECUTION_TIME), time)
 }
 
 // Whether a new swap finds no room (17).
-fn finds_full(a: Action, rows: u64, capacity: u64) -> bool
-    ensures { λ r. ⌜ r ≡ both (isNew a) (eqb rows capacity) ⌝ }
+fn finds_full(a: Action, header: Header) -> bool
+    ensures { λ r. ⌜ r ≡ findsFull a header ⌝ }
 {
     if !is_new(a) {
         return false;
     }
-    rows == capacity
+    header.rows == header.capacity
 }
 
 // Whether a line is due and identifiers are spent (18).
-fn finds_spent(a: Action, next: u64) -> bool
-    ensures { λ r. ⌜ r ≡ both (writesLine a) (eqb next identifierLimit) ⌝ }
+fn finds_spent(a: Action, header: Header) -> bool
+    ensures { λ r. ⌜ r ≡ findsSpent a header ⌝ }
 {
     if !writes_line(a) {
         return false;
     }
-    next == IDENTIFIER_LIMIT
+    header.next == IDENTIFIER_LIMIT
 }
 
 // Each function below judges one rule, in checking order, and hands on to the next. The number is the rule's.
 
 // 3. The first rule that the message breaks, or what it goes on with.
 pub fn decide(l: &[u8], tape: &[u8], m: &[u8], longest: usize, largest: u32) -> Decision
-    ensures { λ r. ⌜ r ≡ decision (limitsOf longest largest) (now (l .entry)) (now (tape .entry)) (now (m .entry)) ⌝ }
+    ensures { λ r. ⌜ r ≡ decision (limitsOf longest largest) (lentOf (now (l .entry)) (now (tape .entry))) (now (m .entry)) ⌝ }
 {
     let HeaderCheck::Value(header) = read_header(l, largest) else {
         return Decision::Refused(LEDGER_WRONG, 0);
@@ -121,7 +144,7 @@ pub fn decide(l: &[u8], tape: &[u8], m: &[u8], longest: usize, largest: u32) -> 
 // 4
 fn decide_tape(l: &[u8], tape: &[u8], m: &[u8], longest: usize, header: Header) -> Decision
     requires { ⌜ HeaderRead header (now l) ⌝ }
-    ensures { λ r. ⌜ ((largest : ℕ) → r ≡ decisionFrom tapeShort (limitsOf longest largest) (now (l .entry)) (now (tape .entry)) (now (m .entry))) ⌝ }
+    ensures { λ r. ⌜ ((largest : ℕ) → r ≡ decisionFrom tapeShort (limitsOf longest largest) (lentOf (now (l .entry)) (now (tape .entry))) (now (m .entry))) ⌝ }
 {
     if tape.len() < LINE_SIZE {
         return Decision::Refused(TAPE_SHORT, 0);
@@ -132,36 +155,57 @@ fn decide_tape(l: &[u8], tape: &[u8], m: &[u8], longest: usize, header: Header) 
 // 5 to 13, the rules of the message alone
 fn decide_message(l: &[u8], m: &[u8], longest: usize, header: Header) -> Decision
     requires { ⌜ HeaderRead header (now l) ⌝ }
-    ensures { λ r. ⌜ ((largest : ℕ) (t : List ℕ) → r ≡ decisionFrom layoutWrong (limitsOf longest largest) (now (l .entry)) t (now (m .entry))) ⌝ }
+    ensures { λ r. ⌜ ((largest : ℕ) (b : Buffers) → r ≡ decisionFrom layoutWrong (limitsOf longest largest) (record { ledger = now (l .entry); buffers = b }) (now (m .entry))) ⌝ }
 {
-    let judged = judge(m, longest);
-    let Judged::Value(action) = judged else {
-        return refused_as(judged);
-    };
-    decide_row(l, m, header, action)
+    match judge(m, longest) {
+        Judged::Refused(verdict, element) => Decision::Refused(verdict, element),
+        Judged::Value(action) => decide_swap(l, m, header, action),
+    }
+}
+
+// 14 to 18, with what the ledger has of the swap: from here on values decide.
+fn decide_swap(l: &[u8], m: &[u8], header: Header, action: Action) -> Decision
+    requires { ⌜ HeaderRead header (now l) ⌝ }
+    ensures { λ r. ⌜ r ≡ decisionIn action (now (l .entry)) (now (m .entry)) ⌝ }
+{
+    let swap = find_swap(l, header.rows as usize, element(m, UTI));
+    let time = time_of(l, swap.known, swap.place);
+    let caps = header.caps;
+    decide_row(action, header, swap, time, cap_of(caps, action, m), m)
 }
 
 // 14
-fn decide_row(l: &[u8], m: &[u8], header: Header, action: Action) -> Decision
-    requires { ⌜ HeaderRead header (now l) ⌝ }
-    ensures { λ r. ⌜ r ≡ swapDecisionFrom rowWrong action (now (l .entry)) (now (m .entry)) ⌝ }
+fn decide_row(
+    action: Action,
+    header: Header,
+    swap: Swap,
+    time: &[u8],
+    cap: u64,
+    m: &[u8],
+) -> Decision
+    ensures { λ r. ⌜ r ≡ decidedFrom rowWrong header swap (now (time .entry)) (now (m .entry)) (acceptanceFor action header swap cap) ⌝ }
 {
-    let SwapCheck::Value(swap) = find_swap(l, header, element(m, UTI)) else {
+    if has_wrong_row(header.next, swap) {
         return Decision::Refused(ROW_WRONG, 0);
-    };
-    decide_step(l, m, header, action, swap)
+    }
+    decide_step(action, header, swap, time, cap, m)
 }
 
 // 15
-fn decide_step(l: &[u8], m: &[u8], header: Header, action: Action, swap: Swap) -> Decision
-    requires { ⌜ HeaderRead header (now l) × (swap ≡ swapIn (now l) (swapOf (now m))) ⌝ }
-    ensures { λ r. ⌜ r ≡ swapDecisionFrom notAdmitted action (now (l .entry)) (now (m .entry)) ⌝ }
+fn decide_step(
+    action: Action,
+    header: Header,
+    swap: Swap,
+    time: &[u8],
+    cap: u64,
+    m: &[u8],
+) -> Decision
+    ensures { λ r. ⌜ r ≡ decidedFrom notAdmitted header swap (now (time .entry)) (now (m .entry)) (acceptanceFor action header swap cap) ⌝ }
 {
     let status = status_after(action, swap.status);
     if status == NO_STEP {
         return Decision::Refused(NOT_ADMITTED, 0);
     }
-    let caps = header.caps;
     let s = Acceptance {
         action,
         place: swap.place,
@@ -169,42 +213,39 @@ fn decide_step(l: &[u8], m: &[u8], header: Header, action: Action, swap: Swap) -
         previous: swap.identifier,
         rows: header.rows,
         next: header.next,
-        caps,
+        cap,
     };
-    decide_time(l, m, header, s)
+    decide_time(s, header, time, m)
 }
 
 // 16
-fn decide_time(l: &[u8], m: &[u8], header: Header, s: Acceptance) -> Decision
-    requires { ⌜ Admitted (now l) (now m) header s ⌝ }
-    ensures { λ r. ⌜ r ≡ swapDecisionFrom otherTime (s .action) (now (l .entry)) (now (m .entry)) ⌝ }
+fn decide_time(s: Acceptance, header: Header, time: &[u8], m: &[u8]) -> Decision
+    ensures { λ r. ⌜ ((swap : Known) → r ≡ decidedFrom otherTime header swap (now (time .entry)) (now (m .entry)) s) ⌝ }
 {
     let a = s.action;
-    if has_other_time(l, s.place, a, m) {
+    if has_other_time(a, time, m) {
         return Decision::Refused(OTHER_TIME, 0);
     }
-    decide_room(l, m, header, s)
+    decide_room(s, header)
 }
 
 // 17
-fn decide_room(l: &[u8], m: &[u8], header: Header, s: Acceptance) -> Decision
-    requires { ⌜ Admitted (now l) (now m) header s ⌝ }
-    ensures { λ r. ⌜ r ≡ swapDecisionFrom ledgerFull (s .action) (now (l .entry)) (now (m .entry)) ⌝ }
+fn decide_room(s: Acceptance, header: Header) -> Decision
+    ensures { λ r. ⌜ ((swap : Known) (time m : Bytes) → r ≡ decidedFrom ledgerFull header swap time m s) ⌝ }
 {
     let a = s.action;
-    if finds_full(a, header.rows, header.capacity) {
+    if finds_full(a, header) {
         return Decision::Refused(LEDGER_FULL, 0);
     }
-    decide_identifier(l, m, header, s)
+    decide_identifier(s, header)
 }
 
 // 18
-fn decide_identifier(l: &[u8], m: &[u8], header: Header, s: Acceptance) -> Decision
-    requires { ⌜ Admitted (now l) (now m) header s ⌝ }
-    ensures { λ r. ⌜ r ≡ swapDecisionFrom identifiersSpent (s .action) (now (l .entry)) (now (m .entry)) ⌝ }
+fn decide_identifier(s: Acceptance, header: Header) -> Decision
+    ensures { λ r. ⌜ ((swap : Known) (time m : Bytes) → r ≡ decidedFrom identifiersSpent header swap time m s) ⌝ }
 {
     let a = s.action;
-    if finds_spent(a, header.next) {
+    if finds_spent(a, header) {
         return Decision::Refused(IDENTIFIERS_SPENT, 0);
     }
     Decision::Value(s)

@@ -3,7 +3,6 @@ mod answer;
 mod apply;
 mod decide;
 mod operations;
-mod swap;
 mod verdicts;
 
 pub use answer::Answer;
@@ -12,6 +11,7 @@ pub use operations::open;
 pub use operations::submit;
 ghost use mathlib.Core.Path.{_≡_};
 ghost use Rattle.submission.specs.Opening.{documentLimits, opened};
+ghost use Rattle.submission.specs.Lent.{lentOf};
 ghost use Rattle.submission.specs.Submission.{submitted};
 ghost use Rattle.submission.specs.Status.{asked};
 ghost use Rattle.repository.specs.Answers.{capsOf, submissionAnswer, questionAnswer, answerIn};
@@ -52,9 +52,8 @@ pub extern "C" fn sdr_open(
 // Submits a message; answers verdict, element and the identifier of its line in one number.
 #[no_mangle]
 pub extern "C" fn sdr_submit(ledger: &mut [u8], tape: &mut [u8], message: &[u8]) -> u64
-    ensures { λ r. ⌜ answerIn r ≡ submissionAnswer (submitted documentLimits (now (ledger .entry)) (now (tape .entry)) (now (message .entry))) ⌝ }
-    ensures { λ _. ⌜ now (ledger .exit) ≡ submitted documentLimits (now (ledger .entry)) (now (tape .entry)) (now (message .entry)) .ledger ⌝ }
-    ensures { λ _. ⌜ now (tape .exit) ≡ submitted documentLimits (now (ledger .entry)) (now (tape .entry)) (now (message .entry)) .tape ⌝ }
+    ensures { λ r. ⌜ answerIn r ≡ submissionAnswer (submitted documentLimits (lentOf (now (ledger .entry)) (now (tape .entry))) (now (message .entry))) ⌝ }
+    ensures { λ _. ⌜ lentOf (now (ledger .exit)) (now (tape .exit)) ≡ submitted documentLimits (lentOf (now (ledger .entry)) (now (tape .entry))) (now (message .entry)) .lent ⌝ }
     ensures { λ _. ⌜ Submission-demands ⌝ }
 {
     let a = submit(ledger, tape, message, LONGEST_MESSAGE, LARGEST_CAPACITY);

@@ -4,6 +4,7 @@ ghost use mathlib.Core.Path.{_≡_};
 ghost use Rattle.octets.specs.Choice.{choose};
 ghost use Rattle.actions.specs.Actions.{writesLine};
 ghost use Rattle.submission.specs.Opening.{opened};
+ghost use Rattle.submission.specs.Lent.{lentOf};
 ghost use Rattle.submission.specs.Submission.{submitted};
 ghost use Rattle.submission.specs.Status.{asked};
 ghost use Rattle.repository.specs.Answers.{limitsOf, submissionAnswer, questionAnswer};
@@ -13,8 +14,7 @@ use crate::answer::refusal;
 use crate::apply::apply;
 use crate::decide::Decision;
 use crate::decide::decide;
-use crate::swap::SwapCheck;
-use crate::swap::find_swap;
+use crate::decide::has_wrong_row;
 use crate::verdicts::CAP_WRONG;
 use crate::verdicts::LEDGER_SHORT;
 use crate::verdicts::LEDGER_WRONG;
@@ -28,6 +28,7 @@ use ledger::HeaderCheck;
 use ledger::SHORTEST_LEDGER;
 use ledger::are_caps;
 use ledger::capacity_for;
+use ledger::find_swap;
 use ledger::read_header;
 use ledger::write_header;
 use rules::FORM_BROKEN;
@@ -75,9 +76,8 @@ fn answer_of(d: Decision) -> Answer
 
 // Judges a message; changes ledger and tape buffer where it is accepted.
 pub fn submit(l: &mut [u8], tape: &mut [u8], m: &[u8], longest: usize, largest: u32) -> Answer
-    ensures { λ r. ⌜ r ≡ submissionAnswer (submitted (limitsOf longest largest) (now (l .entry)) (now (tape .entry)) (now (m .entry))) ⌝ }
-    ensures { λ _. ⌜ now (l .exit) ≡ submitted (limitsOf longest largest) (now (l .entry)) (now (tape .entry)) (now (m .entry)) .ledger ⌝ }
-    ensures { λ _. ⌜ now (tape .exit) ≡ submitted (limitsOf longest largest) (now (l .entry)) (now (tape .entry)) (now (m .entry)) .tape ⌝ }
+    ensures { λ r. ⌜ r ≡ submissionAnswer (submitted (limitsOf longest largest) (lentOf (now (l .entry)) (now (tape .entry))) (now (m .entry))) ⌝ }
+    ensures { λ _. ⌜ lentOf (now (l .exit)) (now (tape .exit)) ≡ submitted (limitsOf longest largest) (lentOf (now (l .entry)) (now (tape .entry))) (now (m .entry)) .lent ⌝ }
 {
     let decision = decide(l, tape, m, longest, largest);
     let Decision::Value(acceptance) = decision else {
@@ -97,9 +97,10 @@ pub fn status(l: &[u8], uti: &[u8], largest: u32) -> Answer
     if !has_form(UTI, uti) {
         return refusal(FORM_BROKEN, UTI as u8);
     }
-    let SwapCheck::Value(swap) = find_swap(l, header, uti) else {
+    let swap = find_swap(l, header.rows as usize, uti);
+    if has_wrong_row(header.next, swap) {
         return refusal(ROW_WRONG, 0);
-    };
+    }
     Answer {
         verdict: 0,
         element: 0,

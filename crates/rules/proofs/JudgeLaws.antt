@@ -9,7 +9,7 @@ use Rattle.actions.specs.declared.Checked.{Checked}
 use Rattle.actions.specs.declared.Checked.the-variants.{Fault, Value}
 use Rattle.rules.specs.declared.Judged.the-variants as answer
 use Rattle.rules.specs.Findings.{Finding, passed, broken, Rule, firstBroken, findingOf, fromRule}
-use Rattle.rules.specs.Rules.{answerOf, laidRules, conclude, judgedFrom, refusedBy}
+use Rattle.rules.specs.Rules.{answerOf, laidRules, conclude, judgedFrom, judgedBy}
 use Rattle.rules.proofs.FindingLaws.{afterRule, stops-at, goes-on}
 
 -- a refusal, whether or not there is an action
@@ -36,10 +36,10 @@ module _ (n : ℕ) (a : Action) (m : List ℕ) where
   abbrev rs : List Rule
   rs = laidRules (Value a) m
 
-  pub check-stops : eqb n 0 ≡ false → {d : Checked} {code : ℕ} → d ≡ answerOf a (findingOf n rs) → d ≡ Fault code → refusedBy n d ≡ judgedFrom n (Value a) m
+  pub check-stops : eqb n 0 ≡ false → {d : Checked} {code : ℕ} → d ≡ answerOf a (findingOf n rs) → d ≡ Fault code → judgedBy n d ≡ judgedFrom n (Value a) m
   unfolding judgedFrom
   check-stops some {d} {code} e f =
-      ap (refusedBy n) f
+      ap (judgedBy n) f
       ∙ sym (ap (λ v. conclude v (Value a)) (stops-at n code rs (broken-by a code (findingOf n rs) (sym e ∙ f))) ∙ refuses n code (Value a) some)
 
   pub check-on : (k : ℕ) {b : Action} {d : Checked} → afterRule n rs ≡ fromRule k rs → d ≡ answerOf a (findingOf n rs) → d ≡ Value b → judgedFrom k (Value b) m ≡ judgedFrom n (Value a) m

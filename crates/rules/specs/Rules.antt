@@ -128,10 +128,10 @@ judged longest m = conclude (verdict longest m) (actionIn m)
 unfoldable pub judgedFrom : ℕ → Checked → List ℕ → Judged
 judgedFrom n action m = conclude (firstBroken (fromRule n (laidRules action m))) action
 
--- a refusal by a check that names an element
-abbrev pub refusedBy : ℕ → Checked → Judged
-refusedBy n (checked.Fault code) = answer.Refused n code
-refusedBy n (checked.Value a) = answer.Refused n 0
+-- what a check says under its number: a refusal that names the element at fault, or the action
+abbrev pub judgedBy : ℕ → Checked → Judged
+judgedBy n (checked.Fault code) = answer.Refused n code
+judgedBy n (checked.Value a) = answer.Value a
 
 -- document 01's number and element of an answer
 abbrev pub verdictOf : Judged → ℕ × ℕ

@@ -9,7 +9,7 @@ ghost use Rattle.message.specs.Reading.{Laid};
 ghost use Rattle.elements.specs.Conditions.{factsOf};
 ghost use Rattle.actions.specs.declared.Checked.the-variants.{Value};
 ghost use Rattle.rules.specs.Verdicts.{noAction, neededMissing, notTaken, formBroken, notPair, dueMissing, priceLong, orderWrong};
-ghost use Rattle.rules.specs.Rules.{actionIn, judged, judgedFrom, refusedBy};
+ghost use Rattle.rules.specs.Rules.{actionIn, judged, judgedFrom, judgedBy};
 use actions::ACTION_CODE;
 use actions::Action;
 use actions::Checked;
@@ -36,13 +36,13 @@ pub enum Judged {
     Value(Action),
 }
 
-// A refusal that names the element at fault.
-fn refused_by(verdict: u8, c: Checked) -> Judged
-    ensures { λ r. ⌜ r ≡ refusedBy verdict c ⌝ }
+// What a check says under its number: a refusal that names the element at fault, or the action.
+fn judged_by(verdict: u8, c: Checked) -> Judged
+    ensures { λ r. ⌜ r ≡ judgedBy verdict c ⌝ }
 {
     match c {
         Checked::Fault(element) => Judged::Refused(verdict, element),
-        Checked::Value(_) => Judged::Refused(verdict, 0),
+        Checked::Value(action) => Judged::Value(action),
     }
 }
 
@@ -65,7 +65,7 @@ fn judge_action(m: &[u8]) -> Judged
 {
     let read = actions::read_action(element(m, ACTION_CODE as u16));
     let Checked::Value(action) = read else {
-        return refused_by(NO_ACTION, read);
+        return judged_by(NO_ACTION, read);
     };
     judge_needed(m, action)
 }
@@ -77,7 +77,7 @@ fn judge_needed(m: &[u8], action: Action) -> Judged
 {
     let needed = lowest_fault(m, NO_FACTS, action, Check::Needed);
     let Checked::Value(action) = needed else {
-        return refused_by(NEEDED_MISSING, needed);
+        return judged_by(NEEDED_MISSING, needed);
     };
     judge_taken(m, action)
 }
@@ -89,7 +89,7 @@ fn judge_taken(m: &[u8], action: Action) -> Judged
 {
     let taken = lowest_not_taken(m, action);
     let Checked::Value(action) = taken else {
-        return refused_by(NOT_TAKEN, taken);
+        return judged_by(NOT_TAKEN, taken);
     };
     judge_forms(m, action)
 }
@@ -101,7 +101,7 @@ fn judge_forms(m: &[u8], action: Action) -> Judged
 {
     let formed = lowest_fault(m, NO_FACTS, action, Check::Formed);
     let Checked::Value(action) = formed else {
-        return refused_by(FORM_BROKEN, formed);
+        return judged_by(FORM_BROKEN, formed);
     };
     judge_pair(m, action)
 }
@@ -125,7 +125,7 @@ fn judge_due(m: &[u8], action: Action) -> Judged
     let facts = elements::facts_of(m);
     let due = lowest_fault(m, facts, action, Check::Due);
     let Checked::Value(action) = due else {
-        return refused_by(DUE_MISSING, due);
+        return judged_by(DUE_MISSING, due);
     };
     judge_price(m, facts, action)
 }

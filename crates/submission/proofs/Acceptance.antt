@@ -2,11 +2,11 @@
 use Prim.Native.Nat.{ℕ, suc, _<_, _≤_}
 use mathlib.Core.Bool.{Bool, true, false, not, false≢true}
 use mathlib.Core.Path.{_≡_, refl, sym, ap, _∙_}
-use mathlib.Core.List.{List}
 use native.Mathlib.Omega.{arith}
 use lib.ListN.{length}
 use lib.Dec.{eqb, leb, ltb, lit≤}
 use borrow.Author.Tests.{eqb-false, ne-eqb, leb-true, ltb-true, ltb-false}
+use Rattle.octets.specs.Bytes.{Bytes}
 use Rattle.octets.specs.Choice.{both}
 use Rattle.octets.proofs.ChoiceLaws.{both-first, both-second, both-false, not-not}
 use Rattle.values.specs.Limits.{utiLeast, utiMost}
@@ -28,18 +28,19 @@ use Rattle.rules.specs.Findings.{passed, broken, firstBroken, findingOf, fromRu
 use Rattle.rules.specs.Rules.{rulesFor, rulesOf, atFault}
 use Rattle.rules.proofs.FindingLaws.{not-broken, unused, distinct, all-passed, is-passed, passed-from, passed-front, lowest-passed}
 use Rattle.ledger.specs.Layout.{utiSize, lineSize, identifierLimit}
-use Rattle.ledger.specs.Header.{rowsInUse, nextIdentifier, capacityIn, headerRight, RightHeader}
-use Rattle.ledger.specs.Rows.{statusOf, placeOf, isKnown, swapRow, swapStatus}
+use Rattle.ledger.specs.Header.{rowsInUse, nextIdentifier, capacityIn, headerRight, RightHeader, headerOf}
+use Rattle.ledger.specs.Rows.{placeOf, isKnown, swapStatus, swapTime, swapIn}
 use Rattle.ledger.proofs.RightHeader.{right-header}
 use Rattle.submission.specs.Verdicts.{ledgerWrong, tapeShort, rowWrong, notAdmitted, otherTime, ledgerFull, identifiersSpent}
 use Rattle.submission.specs.Opening.{Limits}
-use Rattle.submission.specs.Submission.{swapOf, actionIn, rowRight, hasWrongRow, isNotAdmitted, hasOtherTime, findsFull, findsSpent, swapRules, submissionRules, verdictOn, placeFor, accepted, refused, concluded, submitted}
+use Rattle.submission.specs.Lent.{Lent}
+use Rattle.submission.specs.Submission.{swapOf, actionIn, rowRight, hasWrongRow, isNotAdmitted, hasOtherTime, findsFull, findsSpent, swapRules, rulesIn, submissionRules, verdictOn, placeFor, accepted, refused, concluded, submitted}
 
 -- ---- the rules
 
-module _ (limits : Limits) (l t m : List ℕ) where
+module _ (limits : Limits) (lent : Lent) (m : Bytes) where
   -- no two rules have the same number, and none has 0
-  pub numbers-differ : (r : Checked) → distinct (submissionRules limits r l t m) ≡ true
+  pub numbers-differ : (r : Checked) → distinct (submissionRules limits r lent m) ≡ true
   unfolding submissionRules rulesFor rulesOf swapRules unused distinct
   numbers-differ (Fault code) = refl
   numbers-differ (Value a) = refl
@@ -48,26 +49,26 @@ module _ (limits : Limits) (l t m : List ℕ) where
   pub record Accepting : Type 0 where
     pub action : Action
     pub reads : actionIn m ≡ Value action
-    pub passes : AllPassed (submissionRules limits (Value action) l t m)
+    pub passes : AllPassed (submissionRules limits (Value action) lent m)
 
-  pub accepting : verdictOn limits l t m .0 ≡ 0 → Accepting
+  pub accepting : verdictOn limits lent m .0 ≡ 0 → Accepting
   unfolding verdictOn submissionRules rulesFor findingOf
   accepting v = by (actionIn m) refl
     where
+      passing : (r : Checked) → actionIn m ≡ r → AllPassed (submissionRules limits r lent m)
+      passing r e = all-passed (submissionRules limits r lent m) (numbers-differ r) (ap (λ r. firstBroken (submissionRules limits r lent m) .0) (sym e) ∙ v)
+
       by : (r : Checked) → actionIn m ≡ r → Accepting
       by (Fault code) e =
-          let w : firstBroken (submissionRules limits (Fault code) l t m) .0 ≡ 0 = ap (λ r. firstBroken (submissionRules limits r l t m) .0) (sym e) ∙ v in
-          let p : broken code ≡ passed = is-passed noAction (submissionRules limits (Fault code) l t m) (all-passed (submissionRules limits (Fault code) l t m) (numbers-differ (Fault code)) w) in
+          let p : broken code ≡ passed = is-passed noAction (submissionRules limits (Fault code) lent m) (passing (Fault code) e) in
           let z : _≡_ {A = ℕ} 0 1 = cc in
           absurd (omega arith)
-      by (Value a) e =
-          let w : firstBroken (submissionRules limits (Value a) l t m) .0 ≡ 0 = ap (λ r. firstBroken (submissionRules limits r l t m) .0) (sym e) ∙ v in
-          record { action = a; reads = e; passes = all-passed (submissionRules limits (Value a) l t m) (numbers-differ (Value a)) w }
+      by (Value a) e = record { action = a; reads = e; passes = passing (Value a) e }
 
 -- ---- what the rules that an accepted message passes say
 
 -- an action other than NEWT is admitted only for a known swap
-pub step-known : (l u : List ℕ) (a : Action) → eqb (nextStatus a (swapStatus l u)) noStep ≡ false → isNew a ≡ false → isKnown l u ≡ true
+pub step-known : (l u : Bytes) (a : Action) → eqb (nextStatus a (swapStatus l u)) noStep ≡ false → isNew a ≡ false → isKnown l u ≡ true
 unfolding swapStatus
 step-known l u a admitted old = by (isKnown l u) refl
   where
@@ -79,16 +80,16 @@ step-known l u a admitted old = by (isKnown l u) refl
         absurd (false≢true (sym admitted ∙ ap (λ s. eqb s noStep) step))
 
 -- a value of the form of a UTI
-uti-long : (v : List ℕ) → hasForm uti v ≡ true → length v ≤ utiSize
+uti-long : (v : Bytes) → hasForm uti v ≡ true → length v ≤ utiSize
 unfolding hasForm elementOf runOf
 uti-long v e =
     let least : Bool = leb utiLeast (length v) in
     let most : Bool = leb (length v) utiMost in
     leb-true (length v) utiMost (both-first most _ (both-second least (both most _) e))
 
-pub record Fits (limits : Limits) (l t m : List ℕ) (a : Action) : Type 0 where
-  pub header : RightHeader (limits .largest) l
-  pub tape : lineSize ≤ length t
+-- the ledger and the message fit each other
+pub record Fits (largest : ℕ) (l m : Bytes) (a : Action) : Type 0 where
+  pub header : RightHeader largest l
   pub uti : length (swapOf m) ≤ utiSize
   -- NEWT finds no row, any other action finds its swap's
   pub free : isNew a ≡ true → isKnown l (swapOf m) ≡ false
@@ -96,42 +97,48 @@ pub record Fits (limits : Limits) (l t m : List ℕ) (a : Action) : Type 0 where
   -- the row lies within the capacity
   pub place : placeFor a l m < capacityIn l
 
-module _ (limits : Limits) (l t m : List ℕ) (a : Action) (passes : AllPassed (submissionRules limits (Value a) l t m)) where
+module _ {limits : Limits} {lent : Lent} {m : Bytes} (c : Accepting limits lent m) where
+  abbrev l : Bytes
+  l = lent .ledger
+
+  abbrev a : Action
+  a = c .action
+
   -- the rule with number n
-  rule-passed : (n : ℕ) → findingOf n (submissionRules limits (Value a) l t m) ≡ passed
-  rule-passed n = is-passed n (submissionRules limits (Value a) l t m) passes
+  rule-passed : (n : ℕ) → findingOf n (submissionRules limits (Value a) lent m) ≡ passed
+  rule-passed n = is-passed n (submissionRules limits (Value a) lent m) (c .passes)
 
   pub header-test : headerRight (limits .largest) l ≡ true
   unfolding submissionRules rulesFor rulesOf swapRules findingOf
   header-test = not-not _ (not-broken _ (rule-passed ledgerWrong))
 
-  pub tape-test : ltb (length t) lineSize ≡ false
+  pub tape-test : ltb (length (lent .buffers .tape)) lineSize ≡ false
   unfolding submissionRules rulesFor rulesOf swapRules findingOf
   tape-test = not-broken _ (rule-passed tapeShort)
 
-  pub row-test : hasWrongRow l (swapOf m) ≡ false
-  unfolding submissionRules rulesFor rulesOf swapRules findingOf
+  pub row-test : hasWrongRow (nextIdentifier l) (swapIn l (swapOf m)) ≡ false
+  unfolding submissionRules rulesFor rulesOf swapRules findingOf headerOf
   row-test = not-broken _ (rule-passed rowWrong)
 
   pub status-test : eqb (nextStatus a (swapStatus l (swapOf m))) noStep ≡ false
   unfolding submissionRules rulesFor rulesOf swapRules findingOf isNotAdmitted
   status-test = not-broken _ (rule-passed notAdmitted)
 
-  pub time-test : hasOtherTime a l m ≡ false
+  pub time-test : hasOtherTime a (swapTime l (swapOf m)) m ≡ false
   unfolding submissionRules rulesFor rulesOf swapRules findingOf
   time-test = not-broken _ (rule-passed otherTime)
 
   -- the rules of the message alone
   pub message-passes : AllPassed (rulesFor (Value a) (limits .longest) m)
   unfolding submissionRules rulesFor fromRule
-  message-passes = passed-front (rulesFor (Value a) (limits .longest) m) (swapRules a l m) (passed-from layoutWrong (submissionRules limits (Value a) l t m) passes)
+  message-passes = passed-front (rulesFor (Value a) (limits .longest) m) (rulesIn a l m) (passed-from layoutWrong (submissionRules limits (Value a) lent m) (c .passes))
 
   pub room-test : both (isNew a) (eqb (rowsInUse l) (capacityIn l)) ≡ false
-  unfolding submissionRules rulesFor rulesOf swapRules findingOf findsFull
+  unfolding submissionRules rulesFor rulesOf swapRules findingOf findsFull headerOf
   room-test = not-broken _ (rule-passed ledgerFull)
 
   pub spent-test : both (writesLine a) (eqb (nextIdentifier l) identifierLimit) ≡ false
-  unfolding submissionRules rulesFor rulesOf swapRules findingOf findsSpent
+  unfolding submissionRules rulesFor rulesOf swapRules findingOf findsSpent headerOf
   spent-test = not-broken _ (rule-passed identifiersSpent)
 
   there : isThere uti m ≡ true
@@ -144,20 +151,18 @@ module _ (limits : Limits) (l t m : List ℕ) (a : Action) (passes : AllPassed (
       let f : both (isThere uti m) (not (hasForm uti (swapOf m))) ≡ false = lowest-passed (atFault Formed a m) (rule-passed formBroken) uti (lit≤ tt) (lit≤ tt) in
       not-not _ (both-false (isThere uti m) (not (hasForm uti (swapOf m))) f there)
 
-  row-right : isKnown l (swapOf m) ≡ true → rowRight (nextIdentifier l) (swapRow l (swapOf m)) ≡ true
+  pub row-right : isKnown l (swapOf m) ≡ true → rowRight (nextIdentifier l) (swapIn l (swapOf m)) ≡ true
   unfolding hasWrongRow
   row-right k = not-not _ (both-false (isKnown l (swapOf m)) _ row-test k)
 
   is-free : (b : Bool) → isKnown l (swapOf m) ≡ b → isNew a ≡ true → isKnown l (swapOf m) ≡ false
-  unfolding swapStatus rowRight
+  unfolding rowRight
   is-free false k e = k
   is-free true k e =
-      let row : List ℕ = swapRow l (swapOf m) in
-      let some : swapStatus l (swapOf m) ≡ statusOf row = rw k in
-      let none : swapStatus l (swapOf m) ≡ unknown = new-unknown a _ e status-test in
-      let range : within live ported (statusOf row) ≡ true = both-first (within live ported (statusOf row)) _ (row-right k) in
-      let least : live ≤ statusOf row = leb-true _ _ (both-first (leb live (statusOf row)) (leb (statusOf row) ported) range) in
-      absurd (omega (arith, some, none))
+      let status : ℕ = swapStatus l (swapOf m) in
+      let none : status ≡ unknown = new-unknown a _ e status-test in
+      let range : within live ported status ≡ true = both-first (within live ported status) _ (row-right k) in
+      absurd (omega (arith, none, leb-true live status (both-first (leb live status) (leb status ported) range)))
 
   place-fits : (b : Bool) → isNew a ≡ b → rowsInUse l ≤ capacityIn l → placeFor a l m < capacityIn l
   unfolding placeFor isKnown
@@ -166,12 +171,11 @@ module _ (limits : Limits) (l t m : List ℕ) (a : Action) (passes : AllPassed (
       rw e (omega (arith, eqb-false (rowsInUse l) (capacityIn l) differ))
   place-fits false e h = rw e (omega (arith, ltb-true (placeOf l (swapOf m)) (rowsInUse l) (step-known l (swapOf m) a status-test e)))
 
-  all-fit : Fits limits l t m a
+  pub all-fit : Fits (limits .largest) l m a
   all-fit =
       let h : RightHeader (limits .largest) l = right-header (limits .largest) l header-test in
       record {
         header = h;
-        tape = ltb-false _ _ tape-test;
         uti = uti-long (swapOf m) formed;
         free = is-free (isKnown l (swapOf m)) refl;
         known = step-known l (swapOf m) a status-test;
@@ -180,18 +184,15 @@ module _ (limits : Limits) (l t m : List ℕ) (a : Action) (passes : AllPassed (
 
 -- ---- what a submission then is
 
-module _ (limits : Limits) (l t m : List ℕ) where
-  pub fits : (c : Accepting limits l t m) → Fits limits l t m (c .action)
-  fits c = all-fit limits l t m (c .action) (c .passes)
-
-  pub is-accepted : (c : Accepting limits l t m) → verdictOn limits l t m .0 ≡ 0 → submitted limits l t m ≡ accepted (c .action) l t m
+module _ (limits : Limits) (lent : Lent) (m : Bytes) where
+  pub is-accepted : (c : Accepting limits lent m) → verdictOn limits lent m .0 ≡ 0 → submitted limits lent m ≡ accepted (c .action) lent m
   unfolding submitted
   is-accepted c v = rw (c .reads, v)
 
-  pub is-refused : (n : ℕ) → verdictOn limits l t m .0 ≡ suc n → submitted limits l t m ≡ refused (verdictOn limits l t m) l t
+  pub is-refused : (n : ℕ) → verdictOn limits lent m .0 ≡ suc n → submitted limits lent m ≡ refused (verdictOn limits lent m) lent
   unfolding submitted
   is-refused n v = by (actionIn m)
     where
-      by : (r : Checked) → concluded (verdictOn limits l t m) r l t m ≡ refused (verdictOn limits l t m) l t
+      by : (r : Checked) → concluded (verdictOn limits lent m) r lent m ≡ refused (verdictOn limits lent m) lent
       by (Fault code) = refl
-      by (Value a) = rw (ne-eqb (verdictOn limits l t m .0) 0 (λ e. omega (arith, e, v)))
+      by (Value a) = rw (ne-eqb (verdictOn limits lent m .0) 0 (λ e. omega (arith, e, v)))

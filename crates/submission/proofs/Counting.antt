@@ -6,6 +6,7 @@ use mathlib.Core.List.{List, [], _∷_, _++_}
 use native.Mathlib.Omega.{arith}
 use lib.ListN.{length}
 use lib.Dec.{eqb}
+use Rattle.octets.specs.Bytes.{Bytes}
 use Rattle.octets.specs.Choice.{choose, both}
 use Rattle.octets.proofs.ChoiceLaws.{both-first}
 use Rattle.actions.specs.Actions.{writesLine}
@@ -13,6 +14,7 @@ use Rattle.ledger.specs.declared.header.Caps.{Caps}
 use Rattle.ledger.specs.Layout.{u32}
 use Rattle.ledger.specs.Header.{nextIdentifier}
 use Rattle.submission.specs.Opening.{Limits}
+use Rattle.submission.specs.Lent.{Lent}
 use Rattle.submission.specs.History.{Call, submit, messageOf, answerTo, ledgerAfter, ledgerAfterAll, hasAction, publishes, lineOf, tape}
 use Rattle.submission.specs.Demand3.{start}
 use Rattle.submission.specs.Published.{published}
@@ -29,16 +31,17 @@ kept-by-calls limits holds keep l (c ∷ cs) h = kept-by-calls limits holds keep
 -- ---- the identifier of a call
 
 -- the identifier is the ledger's next one where a line is written, else 0; and then it is not 0
-record Given (limits : Limits) (l : List ℕ) (c : Call) : Type 0 where
+record Given (limits : Limits) (l : Bytes) (c : Call) : Type 0 where
   is : answerTo limits l c .identifier ≡ choose (publishes limits l c) (nextIdentifier l) 0
   some : publishes limits l c ≡ true → 1 ≤ nextIdentifier l
 
-given : (limits : Limits) (l : List ℕ) (c : Call) → Given limits l c
+given : (limits : Limits) (l : Bytes) (c : Call) → Given limits l c
 unfolding publishes
-given limits l (submit m t) =
+given limits l (submit m b) =
+    let lent : Lent = record { ledger = l; buffers = b } in
     record {
-      is = by-turn limits l t m (λ s. s .identifier ≡ choose (both (eqb (s .verdict) 0) (hasAction writesLine m)) (nextIdentifier l) 0) (λ a reads f. rw reads) (λ v z. rw z);
-      some = by-turn limits l t m (λ s. both (eqb (s .verdict) 0) (hasAction writesLine m) ≡ true → 1 ≤ nextIdentifier l) (λ a reads f p. f .header .positive) (λ v z p. absurd (false≢true (sym z ∙ both-first _ _ p)));
+      is = by-turn limits lent m (λ s. s .identifier ≡ choose (both (eqb (s .verdict) 0) (hasAction writesLine m)) (nextIdentifier l) 0) (λ c. rw (c .reads)) (λ v z. rw z);
+      some = by-turn limits lent m (λ s. both (eqb (s .verdict) 0) (hasAction writesLine m) ≡ true → 1 ≤ nextIdentifier l) (λ c p. c .fitting .header .positive) (λ v z p. absurd (false≢true (sym z ∙ both-first _ _ p)));
     }
 
 pub identifier-with-line : Identifier-with-line
@@ -60,19 +63,19 @@ identifier-with-line limits l c = (λ e. by (publishes limits l c) refl e, other
 -- ---- since opening
 
 -- a ledger that holds what so many published messages say
-record Counted (caps : Caps) (l : List ℕ) (n : ℕ) : Type 0 where
-  earlier : List (List ℕ)
+record Counted (caps : Caps) (l : Bytes) (n : ℕ) : Type 0 where
+  earlier : List Bytes
   holds : Holds caps l earlier
   count : length earlier ≡ n
 
-counted : (limits : Limits) → limits .largest < 256 ^ u32 → (caps : Caps) (cs : List Call) (l : List ℕ) (earlier : List (List ℕ)) → Holds caps l earlier → Counted caps (ledgerAfterAll limits l cs) (length (published limits l cs) + length earlier)
+counted : (limits : Limits) → limits .largest < 256 ^ u32 → (caps : Caps) (cs : List Call) (l : Bytes) (earlier : List Bytes) → Holds caps l earlier → Counted caps (ledgerAfterAll limits l cs) (length (published limits l cs) + length earlier)
 unfolding ledgerAfterAll published
 counted limits small caps [] l earlier h = record { earlier = earlier; holds = h; count = omega arith }
 counted limits small caps (c ∷ cs) l earlier h =
     let rest = counted limits small caps cs (ledgerAfter limits l c) _ (kept-holding limits small c h) in
     record { earlier = rest .earlier; holds = rest .holds; count = rest .count ∙ one (publishes limits l c) (published limits (ledgerAfter limits l c) cs) }
   where
-    one : (b : Bool) (ms : List (List ℕ)) → length ms + length (choose b (messageOf c ∷ earlier) earlier) ≡ length (choose b (messageOf c ∷ ms) ms) + length earlier
+    one : (b : Bool) (ms : List Bytes) → length ms + length (choose b (messageOf c ∷ earlier) earlier) ≡ length (choose b (messageOf c ∷ ms) ms) + length earlier
     one true ms = omega arith
     one false ms = refl
 

@@ -7,6 +7,7 @@ use native.Mathlib.Omega.{arith}
 use lib.ListN.{length}
 use lib.Dec.{eqb, ltb, lit<}
 use borrow.Author.Tests.{ne-eqb}
+use Rattle.octets.specs.Bytes.{Bytes}
 use Rattle.octets.specs.Choice.{choose}
 use Rattle.octets.specs.Part.{splice}
 use Rattle.message.specs.Values.{value}
@@ -24,77 +25,79 @@ use Rattle.rules.specs.Rules.{finding, atFault, rulesFor, rulesOf, numberOf}
 use Rattle.rules.proofs.FindingLaws.{unused, not-verdict, numbered, has-number, namedBy, names-none, broken-first, lowest-broken}
 use Rattle.rules.proofs.VerdictLaws.{namingNumbers, action-at-fault}
 use Rattle.ledger.specs.Layout.{shortestLedger}
-use Rattle.ledger.specs.Header.{areCaps, capacityFor, headerRight, newHeader}
+use Rattle.ledger.specs.Header.{nextIdentifier, areCaps, capacityFor, headerRight, newHeader}
+use Rattle.ledger.specs.Rows.{swapIn}
 use Rattle.submission.specs.Verdicts.{ledgerShort, capWrong, ledgerWrong, rowWrong, openingNumbers, submissionNumbers}
 use Rattle.submission.specs.Opening.{Limits, openingRules, openingVerdict, opened}
+use Rattle.submission.specs.Lent.{Lent}
 use Rattle.submission.specs.Submission.{actionIn, hasWrongRow, swapRules, submissionRules, rulesOn, verdictOn, submitted}
 use Rattle.submission.specs.Status.{statusRules, answered, asked}
 use Rattle.submission.specs.Demand1.{NamesLowest, Names, Refusal, Submission-answers, Opening-answers, Question, Question-answers}
 use Rattle.submission.proofs.Acceptance.{numbers-differ}
 use Rattle.submission.proofs.Turn.{refuses, accepts, verdict-is}
 
-module _ (limits : Limits) (l t m : List ℕ) where
+module _ (limits : Limits) (lent : Lent) (m : Bytes) where
   -- each rule's number is one of a submission's, and only 6, 7, 8, 9 and 11 name an element
-  all-numbered : (r : Checked) → numbered submissionNumbers (submissionRules limits r l t m) ≡ true
+  all-numbered : (r : Checked) → numbered submissionNumbers (submissionRules limits r lent m) ≡ true
   unfolding submissionRules rulesFor rulesOf swapRules numbered isOneOf
   all-numbered (Fault code) = refl
   all-numbered (Value a) = refl
 
-  all-named : (r : Checked) → namedBy namingNumbers (submissionRules limits r l t m) ≡ true
+  all-named : (r : Checked) → namedBy namingNumbers (submissionRules limits r lent m) ≡ true
   unfolding submissionRules rulesFor rulesOf swapRules namedBy isOneOf
   all-named (Fault code) = refl
   all-named (Value a) = refl
 
-  some-number : (verdictOn limits l t m .0 ≡ 0 → ⊥) → isOneOf submissionNumbers (verdictOn limits l t m .0) ≡ true
+  some-number : (verdictOn limits lent m .0 ≡ 0 → ⊥) → isOneOf submissionNumbers (verdictOn limits lent m .0) ≡ true
   unfolding verdictOn
-  some-number some = has-number submissionNumbers (rulesOn limits l t m) (all-numbered (actionIn m)) some
+  some-number some = has-number submissionNumbers (rulesOn limits lent m) (all-numbered (actionIn m)) some
 
-  no-element : isOneOf namingNumbers (verdictOn limits l t m .0) ≡ false → verdictOn limits l t m .1 ≡ 0
+  no-element : isOneOf namingNumbers (verdictOn limits lent m .0) ≡ false → verdictOn limits lent m .1 ≡ 0
   unfolding verdictOn
-  no-element other = names-none namingNumbers (rulesOn limits l t m) (all-named (actionIn m)) other
+  no-element other = names-none namingNumbers (rulesOn limits lent m) (all-named (actionIn m)) other
 
   -- ---- the element at fault
 
   -- without an action nothing from 7 on is judged
-  not-judged : (code : ℕ) (c : Check) → firstBroken (submissionRules limits (Fault code) l t m) .0 ≡ numberOf c → ⊥
+  not-judged : (code : ℕ) (c : Check) → firstBroken (submissionRules limits (Fault code) lent m) .0 ≡ numberOf c → ⊥
   unfolding submissionRules rulesFor unused
-  not-judged code Needed e = not-verdict _ (submissionRules limits (Fault code) l t m) (lit< tt) refl e
-  not-judged code Taken e = not-verdict _ (submissionRules limits (Fault code) l t m) (lit< tt) refl e
-  not-judged code Formed e = not-verdict _ (submissionRules limits (Fault code) l t m) (lit< tt) refl e
-  not-judged code Due e = not-verdict _ (submissionRules limits (Fault code) l t m) (lit< tt) refl e
+  not-judged code Needed e = not-verdict _ (submissionRules limits (Fault code) lent m) (lit< tt) refl e
+  not-judged code Taken e = not-verdict _ (submissionRules limits (Fault code) lent m) (lit< tt) refl e
+  not-judged code Formed e = not-verdict _ (submissionRules limits (Fault code) lent m) (lit< tt) refl e
+  not-judged code Due e = not-verdict _ (submissionRules limits (Fault code) lent m) (lit< tt) refl e
 
-  check-broken : (a : Action) (c : Check) (e : ℕ) → firstBroken (submissionRules limits (Value a) l t m) ≡ (numberOf c, e) → lowest (atFault c a m) ≡ broken e
+  check-broken : (a : Action) (c : Check) (e : ℕ) → firstBroken (submissionRules limits (Value a) lent m) ≡ (numberOf c, e) → lowest (atFault c a m) ≡ broken e
   unfolding submissionRules rulesFor rulesOf swapRules findingOf
-  check-broken a Needed e v = broken-first (submissionRules limits (Value a) l t m) (numberOf Needed) e (numbers-differ limits l t m (Value a)) (lit< tt) v .0
-  check-broken a Taken e v = broken-first (submissionRules limits (Value a) l t m) (numberOf Taken) e (numbers-differ limits l t m (Value a)) (lit< tt) v .0
-  check-broken a Formed e v = broken-first (submissionRules limits (Value a) l t m) (numberOf Formed) e (numbers-differ limits l t m (Value a)) (lit< tt) v .0
-  check-broken a Due e v = broken-first (submissionRules limits (Value a) l t m) (numberOf Due) e (numbers-differ limits l t m (Value a)) (lit< tt) v .0
+  check-broken a Needed e v = broken-first (submissionRules limits (Value a) lent m) (numberOf Needed) e (numbers-differ limits lent m (Value a)) (lit< tt) v .0
+  check-broken a Taken e v = broken-first (submissionRules limits (Value a) lent m) (numberOf Taken) e (numbers-differ limits lent m (Value a)) (lit< tt) v .0
+  check-broken a Formed e v = broken-first (submissionRules limits (Value a) lent m) (numberOf Formed) e (numbers-differ limits lent m (Value a)) (lit< tt) v .0
+  check-broken a Due e v = broken-first (submissionRules limits (Value a) lent m) (numberOf Due) e (numbers-differ limits lent m (Value a)) (lit< tt) v .0
 
-  names-lowest : (r : Checked) → actionIn m ≡ r → (c : Check) → verdictOn limits l t m .0 ≡ numberOf c → NamesLowest c m (verdictOn limits l t m .1)
+  names-lowest : (r : Checked) → actionIn m ≡ r → (c : Check) → verdictOn limits lent m .0 ≡ numberOf c → NamesLowest c m (verdictOn limits lent m .1)
   unfolding verdictOn
-  names-lowest (Fault code) e c v = absurd (not-judged code c (ap (λ r. firstBroken (submissionRules limits r l t m) .0) (sym e) ∙ v))
+  names-lowest (Fault code) e c v = absurd (not-judged code c (ap (λ r. firstBroken (submissionRules limits r lent m) .0) (sym e) ∙ v))
   names-lowest (Value a) e c v =
-      let is : firstBroken (submissionRules limits (Value a) l t m) ≡ (numberOf c, verdictOn limits l t m .1) = ap (λ r. firstBroken (submissionRules limits r l t m)) (sym e) ∙ ap (λ n. (n, verdictOn limits l t m .1)) v in
-      record { action = a; reads = e; lowest = lowest-broken (atFault c a m) (verdictOn limits l t m .1) (check-broken a c (verdictOn limits l t m .1) is) }
+      let is : firstBroken (submissionRules limits (Value a) lent m) ≡ (numberOf c, verdictOn limits lent m .1) = ap (λ r. firstBroken (submissionRules limits r lent m)) (sym e) ∙ ap (λ n. (n, verdictOn limits lent m .1)) v in
+      record { action = a; reads = e; lowest = lowest-broken (atFault c a m) (verdictOn limits lent m .1) (check-broken a c (verdictOn limits lent m .1) is) }
 
-  action-broken : (r : Checked) (e : ℕ) → firstBroken (submissionRules limits r l t m) ≡ (noAction, e) → finding r ≡ broken e
+  action-broken : (r : Checked) (e : ℕ) → firstBroken (submissionRules limits r lent m) ≡ (noAction, e) → finding r ≡ broken e
   unfolding submissionRules rulesFor rulesOf swapRules findingOf
-  action-broken (Fault code) e v = broken-first (submissionRules limits (Fault code) l t m) noAction e (numbers-differ limits l t m (Fault code)) (lit< tt) v .0
-  action-broken (Value a) e v = broken-first (submissionRules limits (Value a) l t m) noAction e (numbers-differ limits l t m (Value a)) (lit< tt) v .0
+  action-broken (Fault code) e v = broken-first (submissionRules limits (Fault code) lent m) noAction e (numbers-differ limits lent m (Fault code)) (lit< tt) v .0
+  action-broken (Value a) e v = broken-first (submissionRules limits (Value a) lent m) noAction e (numbers-differ limits lent m (Value a)) (lit< tt) v .0
 
-  names-action : verdictOn limits l t m .0 ≡ noAction → verdictOn limits l t m .1 ≡ actionCode
+  names-action : verdictOn limits lent m .0 ≡ noAction → verdictOn limits lent m .1 ≡ actionCode
   unfolding verdictOn
-  names-action v = action-at-fault (value actionCode m) (verdictOn limits l t m .1) (action-broken (actionIn m) (verdictOn limits l t m .1) (ap (λ n. (n, verdictOn limits l t m .1)) v))
+  names-action v = action-at-fault (value actionCode m) (verdictOn limits lent m .1) (action-broken (actionIn m) (verdictOn limits lent m .1) (ap (λ n. (n, verdictOn limits lent m .1)) v))
 
   -- ---- what the submission answers
 
-  same-element : (n : ℕ) → submitted limits l t m .verdict ≡ n → submitted limits l t m .element ≡ verdictOn limits l t m .1
+  same-element : (n : ℕ) → submitted limits lent m .verdict ≡ n → submitted limits lent m .element ≡ verdictOn limits lent m .1
   unfolding isOneOf
-  same-element zero v = ap (λ s. s .element) (accepts limits l t m v .answer) ∙ sym (no-element (ap (isOneOf namingNumbers) (sym (verdict-is limits l t m) ∙ v)))
-  same-element (suc n) v = ap (λ s. s .element) (refuses limits l t m n v)
+  same-element zero v = ap (λ s. s .element) (accepts limits lent m v .answer) ∙ sym (no-element (ap (isOneOf namingNumbers) (sym (verdict-is limits lent m) ∙ v)))
+  same-element (suc n) v = ap (λ s. s .element) (refuses limits lent m n v)
 
-  pub element-is : submitted limits l t m .element ≡ verdictOn limits l t m .1
-  element-is = same-element (submitted limits l t m .verdict) refl
+  pub element-is : submitted limits lent m .element ≡ verdictOn limits lent m .1
+  element-is = same-element (submitted limits lent m .verdict) refl
 
   names-element : (v : ℕ) → (v ≡ noAction → ⊥) → ((check : Check) → v ≡ numberOf check → ⊥) → isOneOf namingNumbers v ≡ false
   unfolding isOneOf
@@ -103,28 +106,27 @@ module _ (limits : Limits) (l t m : List ℕ) where
       other : (check : Check) → eqb (numberOf check) v ≡ false
       other check = ne-eqb (numberOf check) v (λ e. c check (sym e))
 
-  names : Names (submitted limits l t m) m
+  names : Names (submitted limits lent m) m
   names =
-      let v : submitted limits l t m .verdict ≡ verdictOn limits l t m .0 = verdict-is limits l t m in
+      let v : submitted limits lent m .verdict ≡ verdictOn limits lent m .0 = verdict-is limits lent m in
       record {
         lowest = λ c e. rw element-is (names-lowest (actionIn m) refl c (sym v ∙ e));
         action = λ e. element-is ∙ names-action (sym v ∙ e);
         nothing = λ a b. element-is ∙ no-element (names-element _ (λ e. a (v ∙ e)) (λ c e. b c (v ∙ e)));
       }
 
-  refusal : (n : ℕ) → submitted limits l t m .verdict ≡ n → (submitted limits l t m .verdict ≡ 0 → ⊥) → Refusal (submitted limits l t m) l t
+  refusal : (n : ℕ) → submitted limits lent m .verdict ≡ n → (submitted limits lent m .verdict ≡ 0 → ⊥) → Refusal (submitted limits lent m) lent
   refusal zero v z = absurd (z v)
   refusal (suc n) v z =
-      let same : submitted limits l t m .verdict ≡ verdictOn limits l t m .0 = verdict-is limits l t m in
+      let same : submitted limits lent m .verdict ≡ verdictOn limits lent m .0 = verdict-is limits lent m in
       record {
         number = rw same (some-number (λ e. z (same ∙ e)));
-        identifier = ap (λ s. s .identifier) (refuses limits l t m n v);
-        ledger = ap (λ s. s .ledger) (refuses limits l t m n v);
-        tape = ap (λ s. s .tape) (refuses limits l t m n v);
+        identifier = ap (λ s. s .identifier) (refuses limits lent m n v);
+        unchanged = ap (λ s. s .lent) (refuses limits lent m n v);
       }
 
 pub submission-answers : Submission-answers
-submission-answers limits l t m = (names limits l t m, refusal limits l t m (submitted limits l t m .verdict) refl)
+submission-answers limits lent m = (names limits lent m, refusal limits lent m (submitted limits lent m .verdict) refl)
 
 -- ---- opening
 
@@ -144,7 +146,7 @@ opening-answers limits caps l z = by (ltb (length l) shortestLedger) (not (areCa
 
 pub question-answers : Question-answers
 unfolding asked statusRules firstBroken isOneOf
-question-answers limits l u = by (not (headerRight (limits .largest) l)) (hasForm uti u) (hasWrongRow l u)
+question-answers limits l u = by (not (headerRight (limits .largest) l)) (hasForm uti u) (hasWrongRow (nextIdentifier l) (swapIn l u))
   where
     by : (a b c : Bool) → Question (answered (firstBroken (test ledgerWrong a ∷ naming formBroken (choose b passed (broken uti)) ∷ test rowWrong c ∷ [])) l u)
     by true b c = record { named = λ e. absurd (omega arith); nothing = λ n. refl; number = λ n. refl; refused = λ n. (refl, refl) }

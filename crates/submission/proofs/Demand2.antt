@@ -7,6 +7,7 @@ use native.Mathlib.Omega.{arith}
 use lib.ListN.{length, getD, drop}
 use lib.Dec.{eqb, leb, ltb}
 use borrow.Author.Tests.{eqb-false, eq-eqb, ne-eqb, leb-true, le-leb, ltb-true, ltb-false, le-ltb}
+use Rattle.octets.specs.Bytes.{Bytes}
 use Rattle.octets.specs.Choice.{choose, both}
 use Rattle.octets.specs.Part.{splice}
 use Rattle.octets.specs.Fields.{Placed}
@@ -23,8 +24,8 @@ use Rattle.actions.specs.declared.Action.the-variants.{Newt}
 use Rattle.actions.specs.declared.Checked.{Checked}
 use Rattle.actions.specs.declared.Checked.the-variants.{Value}
 use Rattle.actions.specs.Actions.{isFull, isNew, writesLine}
-use Rattle.actions.specs.Statuses.{live, ported, nextStatus, repeatsTime}
-use Rattle.actions.proofs.KindLaws.{is-newt}
+use Rattle.actions.specs.Statuses.{live, ported, noStep, nextStatus, repeatsTime}
+use Rattle.actions.proofs.KindLaws.{is-newt, old-if-repeats}
 use Rattle.elements.specs.Codes.{uti, executionTime}
 use Rattle.elements.specs.Forms.{hasForm}
 use Rattle.rules.specs.Verdicts.{formBroken}
@@ -33,8 +34,8 @@ use Rattle.rules.specs.Rules.{rulesFor, rulesOf, verdict}
 use Rattle.rules.proofs.FindingLaws.{broken-first, first-broken, none-broken, passed-then}
 use Rattle.rules.proofs.VerdictLaws as message
 use Rattle.ledger.specs.Layout.{u32, u64, rowsAt, nextAt, lengthAt, identifierAt, headerSize, rowSize, rowStart, shortestLedger, lineSize, identifierLimit}
-use Rattle.ledger.specs.Header.{rowsInUse, nextIdentifier, capacityIn, capsIn, areCaps, capacityFor, headerRight}
-use Rattle.ledger.specs.Rows.{rowAt, statusOf, identifierOf, storedTerms, storedTime, isKnown, swapRow, swapStatus, swapIdentifier, newRow, rowAfter}
+use Rattle.ledger.specs.Header.{rowsInUse, nextIdentifier, capacityIn, capsIn, areCaps, capacityFor, headerRight, headerOf}
+use Rattle.ledger.specs.Rows.{rowAt, statusOf, identifierOf, storedTerms, storedTime, isKnown, swapRow, swapStatus, swapIdentifier, swapTime, swapIn, newRow, rowAfter}
 use Rattle.ledger.specs.Line.{lineFields, line}
 use Rattle.ledger.proofs.NewHeader as new
 use Rattle.ledger.proofs.RightHeader.{header-right, rows-fit}
@@ -44,10 +45,11 @@ use Rattle.ledger.proofs.ReadBack.{raised-byte}
 use Rattle.ledger.proofs.LineLaws.{line-in-place, length-line}
 use Rattle.submission.specs.Verdicts.{ledgerShort, capWrong, ledgerWrong, rowWrong}
 use Rattle.submission.specs.Opening.{Limits, openingRules, openingVerdict, opened}
+use Rattle.submission.specs.Lent.{Lent}
 use Rattle.submission.specs.Status.{statusRules, asked}
-use Rattle.submission.specs.Submission.{submitted, swapOf, actionIn, rowRight, hasWrongRow, isNotAdmitted, hasOtherTime, findsFull, findsSpent, swapRules, submissionRules, rulesOn, verdictOn, maskedTerms, termsFor, placeFor, rowFor, ledgerFor, lineFor, tapeFor}
+use Rattle.submission.specs.Submission.{submitted, swapOf, actionIn, rowRight, hasWrongRow, isNotAdmitted, hasOtherTime, findsFull, findsSpent, swapRules, rulesIn, submissionRules, rulesOn, verdictOn, maskedTerms, termsFor, placeFor, rowFor, ledgerFor, lineFor, tapeFor}
 use Rattle.submission.specs.Demand2.{Verdict-exactly, Checking-order, RightRow, Sound, Accepted-exactly, Outside, LedgerWritten, TapeWritten, Acceptance-writes, OpeningExactly, Opening-exactly, Opening-writes, QuestionExactly, Question-exactly}
-use Rattle.submission.proofs.Acceptance.{numbers-differ, Accepting, accepting, Fits, row-test, status-test, time-test, message-passes, room-test, spent-test}
+use Rattle.submission.proofs.Acceptance.{numbers-differ, Accepting, accepting, step-known, Fits, row-right as passed-row, status-test, time-test, message-passes, room-test, spent-test}
 use Rattle.submission.proofs.Lookup.{row-whole, length-shown, length-after, ledger-length, new-place, rows-raised, next-raised, row-written}
 use Rattle.submission.proofs.Turn.{Accepts, accepts, verdict-is}
 use Rattle.submission.proofs.Opened.{long-enough, start-is}
@@ -57,27 +59,29 @@ use Rattle.submission.proofs.Demand1.{element-is}
 
 pub verdict-exactly : Verdict-exactly
 unfolding verdictOn
-verdict-exactly limits l t m n e some =
-    let rs : List Rule = rulesOn limits l t m in (
+verdict-exactly limits lent m n e some =
+    let rs : List Rule = rulesOn limits lent m in (
       λ p.
-          let v : verdictOn limits l t m .0 ≡ n = sym (verdict-is limits l t m) ∙ p .0 in
-          let c : verdictOn limits l t m .1 ≡ e = sym (element-is limits l t m) ∙ p .1 in
-          broken-first rs n e (numbers-differ limits l t m (actionIn m)) some (ap₂ {C = ℕ × ℕ} (λ x y. (x, y)) v c),
+          let v : verdictOn limits lent m .0 ≡ n = sym (verdict-is limits lent m) ∙ p .0 in
+          let c : verdictOn limits lent m .1 ≡ e = sym (element-is limits lent m) ∙ p .1 in
+          broken-first rs n e (numbers-differ limits lent m (actionIn m)) some (ap₂ {C = ℕ × ℕ} (λ x y. (x, y)) v c),
       λ b.
-          let v : verdictOn limits l t m ≡ (n, e) = first-broken rs n e b in
-          (verdict-is limits l t m ∙ ap (λ x. x .0) v, element-is limits l t m ∙ ap (λ x. x .1) v),
+          let v : verdictOn limits lent m ≡ (n, e) = first-broken rs n e b in
+          (verdict-is limits lent m ∙ ap (λ x. x .0) v, element-is limits lent m ∙ ap (λ x. x .1) v),
     )
 
 pub checking-order : Checking-order
 unfolding submissionRules rulesFor rulesOf swapRules
-checking-order limits a l t m = refl
+checking-order limits a lent m = refl
 
 -- ---- acceptance in words
 
 -- a row that 14 lets pass, both ways
-right-row : (next : ℕ) (r : List ℕ) → rowRight next r ≡ true → RightRow next r
-unfolding rowRight
-right-row next r e =
+right-row : (next : ℕ) (l u : Bytes) → isKnown l u ≡ true → rowRight next (swapIn l u) ≡ true → RightRow next (swapRow l u)
+unfolding rowRight swapStatus swapIdentifier
+right-row next l u known right =
+    let r : Bytes = swapRow l u in
+    let e : both (within live ported (statusOf r)) (within 1 (next - 1) (identifierOf r)) ≡ true = rw known at right in
     let status : within live ported (statusOf r) ≡ true = both-first (within live ported (statusOf r)) (within 1 (next - 1) (identifierOf r)) e in
     let identifier : within 1 (next - 1) (identifierOf r) ≡ true = both-second (within live ported (statusOf r)) (within 1 (next - 1) (identifierOf r)) e in
     let given : 1 ≤ identifierOf r = leb-true _ _ (both-first (leb 1 (identifierOf r)) (leb (identifierOf r) (next - 1)) identifier) in
@@ -89,100 +93,97 @@ right-row next r e =
       before = omega arith;
     }
 
-row-right : (next : ℕ) (r : List ℕ) → RightRow next r → rowRight next r ≡ true
-unfolding rowRight
-row-right next r h =
-    let most : identifierOf r ≤ next - 1 = omega (arith, h .given, h .before) in
-    rw (le-leb _ _ (h .least), le-leb _ _ (h .most), le-leb _ _ (h .given), le-leb _ _ most)
+row-right : (next : ℕ) (l u : Bytes) → isKnown l u ≡ true → RightRow next (swapRow l u) → rowRight next (swapIn l u) ≡ true
+unfolding rowRight swapStatus swapIdentifier
+row-right next l u known h =
+    let most : identifierOf (swapRow l u) ≤ next - 1 = omega (arith, h .given, h .before) in
+    rw (known, le-leb _ _ (h .least), le-leb _ _ (h .most), le-leb _ _ (h .given), le-leb _ _ most)
 
-module _ (limits : Limits) (l t m : List ℕ) where
-  sound : submitted limits l t m .verdict ≡ 0 → Sound limits l t m
-  unfolding hasWrongRow hasOtherTime verdict
+-- a test that counts only where another one holds
+not-where : (b t : Bool) → (b ≡ true → t ≡ false) → both b t ≡ false
+not-where true t h = h refl
+not-where false t h = refl
+
+-- the stored time of a swap whose status admits an action that repeats it
+known-time : (l u : Bytes) (a : Action) → eqb (nextStatus a (swapStatus l u)) noStep ≡ false → repeatsTime a ≡ true → swapTime l u ≡ storedTime (swapRow l u)
+unfolding swapTime
+known-time l u a admitted repeats = rw (step-known l u a admitted (old-if-repeats a repeats))
+
+module _ (limits : Limits) (lent : Lent) (m : Bytes) where
+  abbrev l : Bytes
+  l = lent .ledger
+
+  sound : submitted limits lent m .verdict ≡ 0 → Sound limits lent m
+  unfolding hasOtherTime verdict
   sound v =
-      let c : Accepting limits l t m = accepting limits l t m (sym (verdict-is limits l t m) ∙ v) in
-      let s : Accepts limits l t m = accepts limits l t m v in
+      let c : Accepting limits lent m = accepting limits lent m (sym (verdict-is limits lent m) ∙ v) in
+      let s : Accepts limits lent m = accepts limits lent m v in
       let a : Action = c .action in
       record {
         action = a;
         reads = c .reads;
         header = s .fitting .header;
-        tape = s .fitting .tape;
-        message = rw (c .reads) (none-broken (rulesFor (Value a) (limits .longest) m) (message-passes limits l t m a (c .passes)));
-        row = λ k. right-row (nextIdentifier l) (swapRow l (swapOf m)) (not-not _ (both-false (isKnown l (swapOf m)) _ (row-test limits l t m a (c .passes)) k));
-        step = eqb-false _ _ (status-test limits l t m a (c .passes));
-        time = λ k. same-true _ _ (not-not _ (both-false (repeatsTime a) _ (time-test limits l t m a (c .passes)) k));
-        room = λ k. eqb-false _ _ (both-false (isNew a) _ (room-test limits l t m a (c .passes)) k);
-        spare = λ k. eqb-false _ _ (both-false (writesLine a) _ (spent-test limits l t m a (c .passes)) k);
+        tape = s .tape;
+        message = rw (c .reads) (none-broken (rulesFor (Value a) (limits .longest) m) (message-passes c));
+        row = λ k. right-row (nextIdentifier l) l (swapOf m) k (passed-row c k);
+        step = eqb-false _ _ (status-test c);
+        time = λ k. same-true _ _ (not-not _ (both-false (repeatsTime a) _ (time-test c) k)) ∙ known-time l (swapOf m) a (status-test c) k;
+        room = λ k. eqb-false _ _ (both-false (isNew a) _ (room-test c) k);
+        spare = λ k. eqb-false _ _ (both-false (writesLine a) _ (spent-test c) k);
       }
 
-  module _ (s : Sound limits l t m) where
-    right-found : hasWrongRow l (swapOf m) ≡ false
+  module _ (s : Sound limits lent m) where
+    right-found : hasWrongRow (nextIdentifier l) (swapIn l (swapOf m)) ≡ false
     unfolding hasWrongRow
-    right-found = by (isKnown l (swapOf m)) refl
-      where
-        by : (b : Bool) → isKnown l (swapOf m) ≡ b → both b (not (rowRight (nextIdentifier l) (swapRow l (swapOf m)))) ≡ false
-        by true k = rw (row-right (nextIdentifier l) (swapRow l (swapOf m)) (s .row k))
-        by false k = refl
+    right-found = not-where (isKnown l (swapOf m)) _ (λ k. ap not (row-right (nextIdentifier l) l (swapOf m) k (s .row k)))
 
-    same-time : hasOtherTime (s .action) l m ≡ false
-    unfolding hasOtherTime
-    same-time = by (repeatsTime (s .action)) refl
-      where
-        by : (b : Bool) → repeatsTime (s .action) ≡ b → both b (not (sameBytes (value executionTime m) (storedTime (swapRow l (swapOf m))))) ≡ false
-        by true k = rw (s .time k) (ap not (same-refl (storedTime (swapRow l (swapOf m)))))
-        by false k = refl
-
-    room-found : findsFull (s .action) l ≡ false
-    unfolding findsFull
-    room-found = by (isNew (s .action)) refl
-      where
-        by : (b : Bool) → isNew (s .action) ≡ b → both b (eqb (rowsInUse l) (capacityIn l)) ≡ false
-        by true k = ne-eqb _ _ (s .room k)
-        by false k = refl
-
-    identifier-found : findsSpent (s .action) l ≡ false
-    unfolding findsSpent
-    identifier-found = by (writesLine (s .action)) refl
-      where
-        by : (b : Bool) → writesLine (s .action) ≡ b → both b (eqb (nextIdentifier l) identifierLimit) ≡ false
-        by true k = ne-eqb _ _ (s .spare k)
-        by false k = refl
-
-    admitted : isNotAdmitted (s .action) l (swapOf m) ≡ false
+    admitted : isNotAdmitted (s .action) (swapIn l (swapOf m)) ≡ false
     unfolding isNotAdmitted
     admitted = ne-eqb _ _ (s .step)
+
+    same-time : hasOtherTime (s .action) (swapTime l (swapOf m)) m ≡ false
+    unfolding hasOtherTime
+    same-time = not-where (repeatsTime (s .action)) _ (λ k. rw (known-time l (swapOf m) (s .action) (ne-eqb _ _ (s .step)) k, s .time k) (ap not (same-refl (storedTime (swapRow l (swapOf m))))))
+
+    room-found : findsFull (s .action) (headerOf l) ≡ false
+    unfolding findsFull headerOf
+    room-found = not-where (isNew (s .action)) _ (λ k. ne-eqb _ _ (s .room k))
+
+    identifier-found : findsSpent (s .action) (headerOf l) ≡ false
+    unfolding findsSpent headerOf
+    identifier-found = not-where (writesLine (s .action)) _ (λ k. ne-eqb _ _ (s .spare k))
 
     message-right : AllPassed (rulesFor (Value (s .action)) (limits .longest) m)
     message-right =
         subst (λ (r : Checked). AllPassed (rulesFor r (limits .longest) m)) (s .reads)
         (message.accepted-exactly (limits .longest) m .0 (ap (λ v. v .0) (s .message)))
 
-    front-passed : firstBroken (submissionRules limits (Value (s .action)) l t m) ≡ firstBroken (rulesFor (Value (s .action)) (limits .longest) m ++ swapRules (s .action) l m)
+    front-passed : firstBroken (submissionRules limits (Value (s .action)) lent m) ≡ firstBroken (rulesFor (Value (s .action)) (limits .longest) m ++ rulesIn (s .action) l m)
     unfolding submissionRules firstBroken
-    front-passed = rw (header-right (limits .largest) l (s .header), le-ltb (length t) lineSize (s .tape))
+    front-passed = rw (header-right (limits .largest) l (s .header), le-ltb (length (lent .buffers .tape)) lineSize (s .tape))
 
-    swap-passed : firstBroken (swapRules (s .action) l m) ≡ (0, 0)
-    unfolding swapRules firstBroken
+    swap-passed : firstBroken (rulesIn (s .action) l m) ≡ (0, 0)
+    unfolding swapRules firstBroken headerOf
     swap-passed = rw (right-found, admitted, same-time, room-found, identifier-found)
 
-    all-passed-on : verdictOn limits l t m ≡ (0, 0)
+    all-passed-on : verdictOn limits lent m ≡ (0, 0)
     unfolding verdictOn
     all-passed-on =
-        ap (λ r. firstBroken (submissionRules limits r l t m)) (s .reads)
+        ap (λ r. firstBroken (submissionRules limits r lent m)) (s .reads)
         ∙ front-passed
-        ∙ passed-then (rulesFor (Value (s .action)) (limits .longest) m) (swapRules (s .action) l m) message-right
+        ∙ passed-then (rulesFor (Value (s .action)) (limits .longest) m) (rulesIn (s .action) l m) message-right
         ∙ swap-passed
 
-    is-accepted : submitted limits l t m .verdict ≡ 0
-    is-accepted = verdict-is limits l t m ∙ ap (λ v. v .0) all-passed-on
+    is-accepted : submitted limits lent m .verdict ≡ 0
+    is-accepted = verdict-is limits lent m ∙ ap (λ v. v .0) all-passed-on
 
 pub accepted-exactly : Accepted-exactly
-accepted-exactly limits l t m = (sound limits l t m, is-accepted limits l t m)
+accepted-exactly limits lent m = (sound limits lent m, is-accepted limits lent m)
 
 -- ---- what an accepted message writes
 
-module _ {limits : Limits} {l t m : List ℕ} {a : Action} (f : Fits limits l t m a) (small : limits .largest < 256 ^ u32) where
-  abbrev old : List ℕ
+module _ {largest : ℕ} {l m : Bytes} {a : Action} (f : Fits largest l m a) (small : largest < 256 ^ u32) where
+  abbrev old : Bytes
   old = rowAt l (placeFor a l m)
 
   whole : length (rowAt l (placeFor a l m)) ≡ rowSize
@@ -210,7 +211,7 @@ module _ {limits : Limits} {l t m : List ℕ} {a : Action} (f : Fits limits l t 
 
   -- every other byte
   fits : rowStart (placeFor a l m) + length (rowFor a l m) ≤ length l
-  fits = omega (arith, length-after f small, rows-fit (limits .largest) l (f .header), f .place)
+  fits = omega (arith, length-after f small, rows-fit largest l (f .header), f .place)
 
   bytes-kept : (i : ℕ) → Outside (rowStart (placeFor a l m)) rowSize i → (isNew a ≡ true → Outside rowsAt u32 i) → (writesLine a ≡ true → Outside nextAt u64 i) → getD (ledgerFor a l m) i 0 ≡ getD l i 0
   unfolding ledgerFor
@@ -234,19 +235,23 @@ module _ {limits : Limits} {l t m : List ℕ} {a : Action} (f : Fits limits l t 
         others = bytes-kept;
       }
 
-  -- ---- the tape buffer
+-- ---- the tape buffer
+
+module _ (a : Action) (l t m : Bytes) (room : lineSize ≤ length t) where
+  abbrev previous : ℕ
+  previous = swapIdentifier l (swapOf m)
 
   line-fits : 0 + length (lineFor a l m) ≤ length t
   unfolding lineFor
-  line-fits = omega (arith, length-line a (nextIdentifier l) (swapIdentifier l (swapOf m)) m (termsFor a l m), f .tape)
+  line-fits = omega (arith, length-line a (nextIdentifier l) previous m (termsFor a l m), room)
 
-  placed : Placed 0 (lineFields a (nextIdentifier l) (swapIdentifier l (swapOf m)) m (termsFor a l m)) (splice t 0 (lineFor a l m))
+  placed : Placed 0 (lineFields a (nextIdentifier l) previous m (termsFor a l m)) (splice t 0 (lineFor a l m))
   unfolding lineFor line
-  placed = front-placed (lineFields a (nextIdentifier l) (swapIdentifier l (swapOf m)) m (termsFor a l m)) lineSize t (line-in-place a (nextIdentifier l) (swapIdentifier l (swapOf m)) m (termsFor a l m)) (f .tape)
+  placed = front-placed _ lineSize t (line-in-place a (nextIdentifier l) previous m (termsFor a l m)) room
 
   later-bytes : drop lineSize (splice t 0 (lineFor a l m)) ≡ drop lineSize t
   unfolding lineFor line
-  later-bytes = front-later (lineFields a (nextIdentifier l) (swapIdentifier l (swapOf m)) m (termsFor a l m)) lineSize t (line-in-place a (nextIdentifier l) (swapIdentifier l (swapOf m)) m (termsFor a l m))
+  later-bytes = front-later _ lineSize t (line-in-place a (nextIdentifier l) previous m (termsFor a l m))
 
   tape-written : TapeWritten a l t m (tapeFor a l t m)
   tape-written = by (writesLine a) refl
@@ -256,13 +261,13 @@ module _ {limits : Limits} {l t m : List ℕ} {a : Action} (f : Fits limits l t 
       by false e = record { line = λ w. absurd (false≢true (sym e ∙ w)); later = refl; long = refl; none = λ w. refl }
 
 pub acceptance-writes : Acceptance-writes
-acceptance-writes limits l t m small v =
-    let c : Accepts limits l t m = accepts limits l t m v in
+acceptance-writes limits lent m small v =
+    let c : Accepts limits lent m = accepts limits lent m v in
     record {
       action = c .action;
       reads = c .reads;
-      ledger = rw (ap (λ s. s .ledger) (c .answer)) (ledger-written (c .fitting) small);
-      tape = rw (ap (λ s. s .tape) (c .answer)) (tape-written (c .fitting) small);
+      ledger = rw (ap (λ s. s .lent .ledger) (c .answer)) (ledger-written (c .fitting) small);
+      tape = rw (ap (λ s. s .lent .buffers .tape) (c .answer)) (tape-written (c .action) (lent .ledger) (lent .buffers .tape) m (c .tape));
       identifier = ap (λ s. s .identifier) (c .answer);
     }
 
@@ -311,9 +316,9 @@ opening-writes limits caps l v =
 pub question-exactly : Question-exactly
 unfolding asked statusRules firstBroken
 question-exactly limits l u =
-    (by (headerRight (limits .largest) l) refl (hasForm uti u) refl (hasWrongRow l u) refl, λ v. rw (eq-eqb _ 0 v) (refl, refl))
+    (by (headerRight (limits .largest) l) refl (hasForm uti u) refl (hasWrongRow (nextIdentifier l) (swapIn l u)) refl, λ v. rw (eq-eqb _ 0 v) (refl, refl))
   where
-    by : (a : Bool) → headerRight (limits .largest) l ≡ a → (b : Bool) → hasForm uti u ≡ b → (c : Bool) → hasWrongRow l u ≡ c
+    by : (a : Bool) → headerRight (limits .largest) l ≡ a → (b : Bool) → hasForm uti u ≡ b → (c : Bool) → hasWrongRow (nextIdentifier l) (swapIn l u) ≡ c
         → QuestionExactly limits l u (firstBroken (test ledgerWrong (not a) ∷ naming formBroken (choose b passed (broken uti)) ∷ test rowWrong c ∷ []) .0)
     by false e b f c g =
         record {

@@ -10,6 +10,7 @@ use native.Mathlib.Omega.{arith}
 use lib.ListN.{length, getD}
 use lib.Dec.{eqb, ltb}
 use borrow.Author.Tests.{eqb-true, eqb-false, ltb-true, ltb-false, lt-ltb}
+use Rattle.octets.specs.Bytes.{Bytes}
 use Rattle.octets.specs.Choice.{choose}
 use Rattle.octets.specs.Search.{firstFrom}
 use Rattle.octets.specs.Part.{part, splice}
@@ -25,24 +26,21 @@ use Rattle.actions.specs.declared.Action.the-variants.{Newt}
 use Rattle.actions.specs.Actions.{isFull, isNew, writesLine}
 use Rattle.actions.specs.Statuses.{nextStatus}
 use Rattle.actions.proofs.KindLaws.{is-newt, old-unless-full}
-use Rattle.message.specs.Values.{value}
-use Rattle.elements.specs.Codes.{assetClass}
 use Rattle.ledger.specs.declared.header.Caps.{Caps}
 use Rattle.ledger.specs.Layout.{u32, lengthAt, utiAt, utiSize, termsAt, headerSize, rowSize, rowStart}
-use Rattle.ledger.specs.Header.{rowsInUse, nextIdentifier, capacityIn, capsIn, capFor}
+use Rattle.ledger.specs.Header.{rowsInUse, nextIdentifier, capacityIn, capsIn}
 use Rattle.ledger.specs.Rows.{rowAt, storedTerms, holdsUti, placeIn, placeOf, isKnown, swapRow, swapStatus, newRow, rowAfter}
 use Rattle.ledger.proofs.RowLaws as row
 use Rattle.ledger.proofs.RightHeader.{rows-fit, capacity-most}
 use Rattle.ledger.proofs.RowAfterLaws.{length-row-after}
 use Rattle.ledger.proofs.RowFields.{new-holds, after-holds}
 use Rattle.ledger.proofs.ReadBack.{row-length, row-rows, row-next, row-caps, row-same, row-other, raised-caps, raised-row, raised-length, raised-rows, raised-next}
-use Rattle.submission.specs.Opening.{Limits}
-use Rattle.submission.specs.Submission.{swapOf, maskedTerms, termsFor, placeFor, rowFor, ledgerFor}
+use Rattle.submission.specs.Submission.{swapOf, capOn, maskedTerms, termsFor, placeFor, rowFor, ledgerFor}
 use Rattle.submission.proofs.Acceptance.{Fits}
 
 -- ---- a row holds one UTI
 
-holds-once : (u v r : List ℕ) → holdsUti u r ≡ true → holdsUti v r ≡ true → u ≡ v
+holds-once : (u v r : Bytes) → holdsUti u r ≡ true → holdsUti v r ≡ true → u ≡ v
 unfolding holdsUti
 holds-once u v r p q =
     let eu : eqb (getD r lengthAt 0) (length u) ≡ true = both-first _ (sameBytes (part r utiAt (length u)) u) p in
@@ -53,25 +51,25 @@ holds-once u v r p q =
     sym su ∙ rw n sv
 
 -- the row of a known swap holds its UTI
-known-holds : (l u : List ℕ) → placeOf l u < rowsInUse l → holdsUti u (swapRow l u) ≡ true
+known-holds : (l u : Bytes) → placeOf l u < rowsInUse l → holdsUti u (swapRow l u) ≡ true
 unfolding placeIn
 known-holds l u h = first-passes (λ k. holdsUti u (rowAt l k)) 0 (rowsInUse l) (omega arith)
 
 -- ---- terms have one length
 
-length-masked : (caps : Caps) (m : List ℕ) → length (maskedTerms caps m) ≡ termsSize
+length-masked : (caps : Caps) (m : Bytes) → length (maskedTerms caps m) ≡ termsSize
 unfolding maskedTerms
-length-masked caps m = length-terms (capFor caps (value assetClass m)) m
+length-masked caps m = length-terms (capOn caps m) m
 
-pub length-stored : (r : List ℕ) → length r ≡ rowSize → length (storedTerms r) ≡ termsSize
+pub length-stored : (r : Bytes) → length r ≡ rowSize → length (storedTerms r) ≡ termsSize
 unfolding storedTerms
 length-stored r size = length-part r termsAt termsSize (omega arith)
 
 -- ---- the ledger after
 
-module _ {limits : Limits} {l t m : List ℕ} {a : Action} (f : Fits limits l t m a) (small : limits .largest < 256 ^ u32) where
+module _ {largest : ℕ} {l m : Bytes} {a : Action} (f : Fits largest l m a) (small : largest < 256 ^ u32) where
   room : (j : ℕ) → j < capacityIn l → rowStart (suc j) ≤ length l
-  room j h = omega (arith, rows-fit (limits .largest) l (f .header))
+  room j h = omega (arith, rows-fit largest l (f .header))
 
   pub row-whole : (j : ℕ) → j < capacityIn l → length (rowAt l j) ≡ rowSize
   row-whole j h = row.length-row l j (omega (arith, room j h))
@@ -92,7 +90,7 @@ module _ {limits : Limits} {l t m : List ℕ} {a : Action} (f : Fits limits l t 
   unfolding rowFor
   length-after = length-row-after a _ (swapOf m) (nextIdentifier l) (termsFor a l m) (rowAt l (placeFor a l m)) length-shown (row-whole (placeFor a l m) (f .place))
 
-  abbrev stored : List ℕ
+  abbrev stored : Bytes
   stored = splice l (rowStart (placeFor a l m)) (rowFor a l m)
 
   here : rowStart (suc (placeFor a l m)) ≤ length l
@@ -118,7 +116,7 @@ module _ {limits : Limits} {l t m : List ℕ} {a : Action} (f : Fits limits l t 
   pub rows-raised : rowsInUse (ledgerFor a l m) ≡ choose (isNew a) (rowsInUse l + 1) (rowsInUse l)
   unfolding ledgerFor
   rows-raised =
-      raised-rows a (rowsInUse l) (nextIdentifier l) stored header-there (λ e. omega (arith, f .place, new-place e, capacity-most (limits .largest) l (f .header)))
+      raised-rows a (rowsInUse l) (nextIdentifier l) stored header-there (λ e. omega (arith, f .place, new-place e, capacity-most largest l (f .header)))
       ∙ ap (choose (isNew a) (rowsInUse l + 1)) (row-rows l (rowFor a l m) (placeFor a l m) length-after here)
 
   pub next-raised : nextIdentifier (ledgerFor a l m) ≡ choose (writesLine a) (nextIdentifier l + 1) (nextIdentifier l)
@@ -142,7 +140,7 @@ module _ {limits : Limits} {l t m : List ℕ} {a : Action} (f : Fits limits l t 
   -- ---- which UTIs the rows hold
 
   -- a row that is not new holds the UTI that it held
-  old-holds : isNew a ≡ false → (v : List ℕ) → length v ≤ utiSize → (j : ℕ) → holdsUti v (rowAt (ledgerFor a l m) j) ≡ holdsUti v (rowAt l j)
+  old-holds : isNew a ≡ false → (v : Bytes) → length v ≤ utiSize → (j : ℕ) → holdsUti v (rowAt (ledgerFor a l m) j) ≡ holdsUti v (rowAt l j)
   unfolding rowFor
   old-holds e v h j = by (eqb j (placeFor a l m)) refl
     where
@@ -152,14 +150,14 @@ module _ {limits : Limits} {l t m : List ℕ} {a : Action} (f : Fits limits l t 
           rw (at) (ap (holdsUti v) row-written ∙ after-holds a _ (swapOf m) (nextIdentifier l) (termsFor a l m) (rowAt l (placeFor a l m)) length-shown (row-whole (placeFor a l m) (f .place)) e v h)
       by false g = ap (holdsUti v) (row-kept j (eqb-false _ _ g))
 
-  old-places : isNew a ≡ false → (v : List ℕ) → length v ≤ utiSize → placeOf (ledgerFor a l m) v ≡ placeOf l v
+  old-places : isNew a ≡ false → (v : Bytes) → length v ≤ utiSize → placeOf (ledgerFor a l m) v ≡ placeOf l v
   unfolding placeIn
   old-places e v h =
       ap (firstFrom (λ j. holdsUti v (rowAt (ledgerFor a l m) j)) 0) (rows-raised ∙ rw e)
       ∙ first-same (λ j. holdsUti v (rowAt (ledgerFor a l m) j)) (λ j. holdsUti v (rowAt l j)) 0 (rowsInUse l) (λ j g. old-holds e v h j)
 
   -- NEWT adds a row behind those in use: it holds the message's UTI and no other
-  new-row-holds : isNew a ≡ true → (v : List ℕ) → (holdsUti v (rowAt (ledgerFor a l m) (rowsInUse l)) ≡ true) ↔ (swapOf m ≡ v)
+  new-row-holds : isNew a ≡ true → (v : Bytes) → (holdsUti v (rowAt (ledgerFor a l m) (rowsInUse l)) ≡ true) ↔ (swapOf m ≡ v)
   unfolding rowFor
   new-row-holds e v =
       let r : rowAt (ledgerFor a l m) (rowsInUse l) ≡ rowFor a l m = ap (rowAt (ledgerFor a l m)) (sym (new-place e)) ∙ row-written in
@@ -170,18 +168,18 @@ module _ {limits : Limits} {l t m : List ℕ} {a : Action} (f : Fits limits l t 
       by b g = rw g
 
   -- the rows in use before hold what they held
-  new-holds-before : isNew a ≡ true → (v : List ℕ) (j : ℕ) → j < rowsInUse l → holdsUti v (rowAt (ledgerFor a l m) j) ≡ holdsUti v (rowAt l j)
+  new-holds-before : isNew a ≡ true → (v : Bytes) (j : ℕ) → j < rowsInUse l → holdsUti v (rowAt (ledgerFor a l m) j) ≡ holdsUti v (rowAt l j)
   new-holds-before e v j h = ap (holdsUti v) (row-kept j (λ g. omega (arith, g, h, new-place e)))
 
   new-rows : isNew a ≡ true → rowsInUse (ledgerFor a l m) ≡ suc (rowsInUse l)
   new-rows e = rows-raised ∙ rw (e, add-one)
 
-  first-before : isNew a ≡ true → (v : List ℕ) → firstFrom (λ j. holdsUti v (rowAt (ledgerFor a l m) j)) 0 (rowsInUse l) ≡ placeOf l v
+  first-before : isNew a ≡ true → (v : Bytes) → firstFrom (λ j. holdsUti v (rowAt (ledgerFor a l m) j)) 0 (rowsInUse l) ≡ placeOf l v
   unfolding placeIn
   first-before e v = first-same (λ j. holdsUti v (rowAt (ledgerFor a l m) j)) (λ j. holdsUti v (rowAt l j)) 0 (rowsInUse l) (λ j h. new-holds-before e v j (omega arith))
 
   -- a UTI that was found is found where it was
-  new-found : isNew a ≡ true → (v : List ℕ) → placeOf l v < rowsInUse l → placeOf (ledgerFor a l m) v ≡ placeOf l v
+  new-found : isNew a ≡ true → (v : Bytes) → placeOf l v < rowsInUse l → placeOf (ledgerFor a l m) v ≡ placeOf l v
   unfolding placeIn
   new-found e v h =
       let g : ℕ → Bool = λ j. holdsUti v (rowAt (ledgerFor a l m) j) in
@@ -189,7 +187,7 @@ module _ {limits : Limits} {l t m : List ℕ} {a : Action} (f : Fits limits l t 
       ap (firstFrom g 0) (new-rows e) ∙ first-stays g 0 (rowsInUse l) (omega arith) ∙ same
 
   -- one that was not is asked of the new row
-  new-asked : isNew a ≡ true → (v : List ℕ) → rowsInUse l ≤ placeOf l v → placeOf (ledgerFor a l m) v ≡ choose (holdsUti v (rowAt (ledgerFor a l m) (rowsInUse l))) (rowsInUse l) (suc (rowsInUse l))
+  new-asked : isNew a ≡ true → (v : Bytes) → rowsInUse l ≤ placeOf l v → placeOf (ledgerFor a l m) v ≡ choose (holdsUti v (rowAt (ledgerFor a l m) (rowsInUse l))) (rowsInUse l) (suc (rowsInUse l))
   unfolding placeIn
   new-asked e v h =
       let g : ℕ → Bool = λ j. holdsUti v (rowAt (ledgerFor a l m) j) in
@@ -222,7 +220,7 @@ module _ {limits : Limits} {l t m : List ℕ} {a : Action} (f : Fits limits l t 
 
   -- ---- any other swap
 
-  module _ (v : List ℕ) (h : length v ≤ utiSize) (differ : swapOf m ≡ v → ⊥) where
+  module _ (v : Bytes) (h : length v ≤ utiSize) (differ : swapOf m ≡ v → ⊥) where
     apart : isNew a ≡ false → placeOf l v < rowsInUse l → placeOf l v ≡ placeFor a l m → ⊥
     unfolding isKnown
     apart e g p =

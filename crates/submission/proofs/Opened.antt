@@ -6,6 +6,7 @@ use mathlib.Core.List.{List, []}
 use native.Mathlib.Omega.{arith}
 use lib.ListN.{length}
 use borrow.Author.Tests.{ltb-true, ltb-false, eq-eqb}
+use Rattle.octets.specs.Bytes.{Bytes}
 use Rattle.octets.specs.Part.{splice}
 use Rattle.octets.proofs.ChoiceLaws.{not-not}
 use Rattle.rules.specs.Findings.{findingOf, AllPassed}
@@ -20,11 +21,11 @@ use Rattle.submission.specs.Opening.{Limits, openingRules, openingVerdic
 use Rattle.submission.specs.Demand3.{start}
 use Rattle.submission.proofs.Told.{Holds}
 
-opening-differ : (caps : Caps) (l : List ℕ) → distinct (openingRules caps l) ≡ true
+opening-differ : (caps : Caps) (l : Bytes) → distinct (openingRules caps l) ≡ true
 unfolding openingRules unused distinct
 opening-differ caps l = refl
 
-module _ (limits : Limits) (caps : Caps) (l : List ℕ) (v : opened limits caps l .verdict ≡ 0) where
+module _ (limits : Limits) (caps : Caps) (l : Bytes) (v : opened limits caps l .verdict ≡ 0) where
   passes : AllPassed (openingRules caps l)
   unfolding opened openingVerdict
   passes = all-passed (openingRules caps l) (opening-differ caps l) v
@@ -58,7 +59,7 @@ module _ (limits : Limits) (caps : Caps) (l : List ℕ) (v : opened limits caps 
   pub start-right : limits .largest < 256 ^ u32 → headerRight (limits .largest) (start limits caps l) ≡ true
   start-right small = ap (headerRight (limits .largest)) start-is ∙ header.opened-right (limits .largest) caps l small long-enough caps-right
 
-  nothing-known : (u : List ℕ) → isKnown (start limits caps l) u ≡ true → ⊥
+  nothing-known : (u : Bytes) → isKnown (start limits caps l) u ≡ true → ⊥
   unfolding isKnown
   nothing-known u e = omega (arith, ltb-true (placeOf (start limits caps l) u) (rowsInUse (start limits caps l)) e, start-rows)
 

@@ -8,6 +8,7 @@ use native.Mathlib.Omega.{arith}
 use lib.ListN.{length}
 use lib.Dec.{eqb}
 use borrow.Author.Tests.{eqb-true}
+use Rattle.octets.specs.Bytes.{Bytes}
 use Rattle.octets.specs.Choice.{both}
 use Rattle.octets.specs.Same.{sameBytes}
 use Rattle.octets.proofs.ChoiceLaws.{both-first, both-second, same-test, choose-first, choose-same}
@@ -25,11 +26,11 @@ use Rattle.submission.specs.Published.{published, lastIdentifier, lastMa
 
 -- ---- two messages that show the same
 
-pub record Twins (caps : Caps) (m₁ m₂ : List ℕ) : Type 0 where
+pub record Twins (caps : Caps) (m₁ m₂ : Bytes) : Type 0 where
   pub shown : SameShown m₁ m₂
   pub terms : hasAction isFull m₁ ≡ true → maskedTerms caps m₁ ≡ maskedTerms caps m₂
 
-same-actions : (caps : Caps) (m₁ m₂ : List ℕ) → SameShown m₁ m₂ → actionIn m₁ ≡ actionIn m₂
+same-actions : (caps : Caps) (m₁ m₂ : Bytes) → SameShown m₁ m₂ → actionIn m₁ ≡ actionIn m₂
 same-actions caps m₁ m₂ s = ap actionOf (s .0)
 
 -- the premises, with the masked terms of full messages alone: the rest of them follows
@@ -67,22 +68,22 @@ near-rest caps j k js ks n =
 
 -- ---- earlier messages that show the same, place by place
 
-Prior : Caps → List (List ℕ) → List (List ℕ) → Type 0
+Prior : Caps → List Bytes → List Bytes → Type 0
 Prior caps [] [] = Unit {0}
 Prior caps [] (f ∷ fs) = ⊥
 Prior caps (e ∷ es) [] = ⊥
 Prior caps (e ∷ es) (f ∷ fs) = Twins caps e f × Prior caps es fs
 
 -- which of them name a swap
-abbrev naming : List ℕ → List (List ℕ) → List Bool
-naming u es = map (λ (e : List ℕ). sameBytes (swapOf e) u) es
+abbrev naming : Bytes → List Bytes → List Bool
+naming u es = map (λ (e : Bytes). sameBytes (swapOf e) u) es
 
-record Same (caps : Caps) (u v : List ℕ) (es fs : List (List ℕ)) : Type 0 where
+record Same (caps : Caps) (u v : Bytes) (es fs : List Bytes) : Type 0 where
   lines : lastIdentifier u es ≡ lastIdentifier v fs
   terms : lastMasked caps u es ≡ lastMasked caps v fs
   long : length es ≡ length fs
 
-same-earlier : (caps : Caps) (u v : List ℕ) (es fs : List (List ℕ)) → Prior caps es fs → naming u es ≡ naming v fs → Same caps u v es fs
+same-earlier : (caps : Caps) (u v : Bytes) (es fs : List Bytes) → Prior caps es fs → naming u es ≡ naming v fs → Same caps u v es fs
 unfolding Prior lastIdentifier lastMasked
 same-earlier caps u v [] [] p n = record { lines = refl; terms = refl; long = refl }
 same-earlier caps u v [] (f ∷ fs) p n = absurd p
@@ -101,17 +102,17 @@ same-earlier caps u v (e ∷ es) (f ∷ fs) p n =
 
 -- ---- one line
 
-line-shown : (r : Checked) (i p : ℕ) (m n terms : List ℕ) → SameShown m n → lineBy r i p m terms ≡ lineBy r i p n terms
+line-shown : (r : Checked) (i p : ℕ) (m n terms : Bytes) → SameShown m n → lineBy r i p m terms ≡ lineBy r i p n terms
 unfolding line lineFields
 line-shown (Fault code) i p m n terms s = refl
 line-shown (Value a) i p m n terms s = rw (s .0, s .1, s .2)
 
-same-terms : (caps : Caps) (m n : List ℕ) (es fs : List (List ℕ)) → Twins caps m n → Same caps (swapOf m) (swapOf n) es fs → toldTerms caps es m ≡ toldTerms caps fs n
+same-terms : (caps : Caps) (m n : Bytes) (es fs : List Bytes) → Twins caps m n → Same caps (swapOf m) (swapOf n) es fs → toldTerms caps es m ≡ toldTerms caps fs n
 unfolding toldTerms
 same-terms caps m n es fs t i =
     choose-same (hasAction isFull m) (hasAction isFull n) _ _ _ _ (ap (ofKind isFull) (same-actions caps m n (t .shown))) (t .terms) (i .terms)
 
-same-line : (caps : Caps) (m n : List ℕ) (es fs : List (List ℕ)) → Twins caps m n → Same caps (swapOf m) (swapOf n) es fs → toldLine caps es m ≡ toldLine caps fs n
+same-line : (caps : Caps) (m n : Bytes) (es fs : List Bytes) → Twins caps m n → Same caps (swapOf m) (swapOf n) es fs → toldLine caps es m ≡ toldLine caps fs n
 unfolding toldLine
 same-line caps m n es fs t i =
     line-shown (actionIn m) _ _ m n _ (t .shown)
@@ -119,22 +120,22 @@ same-line caps m n es fs t i =
 
 -- ---- the histories from here on, with what was published before
 
-abbrev Named : List Judgement → List Judgement → List (List ℕ) → List (List ℕ) → Type 0
+abbrev Named : List Judgement → List Judgement → List Bytes → List Bytes → Type 0
 Named js ks es fs = (i : ℕ) → Accepted js i → naming (swapOf (messageAt js i)) es ≡ naming (swapOf (messageAt ks i)) fs
 
-name-one : (u v m n : List ℕ) → (m ≡ u) ↔ (n ≡ v) → sameBytes m u ≡ sameBytes n v
+name-one : (u v m n : Bytes) → (m ≡ u) ↔ (n ≡ v) → sameBytes m u ≡ sameBytes n v
 name-one u v m n e =
     same-test _ _ (λ b. rw (e .0 (same-true m u b)) (same-refl v)) (λ b. rw (e .1 (same-true n v b)) (same-refl u))
 
 -- whether a line is written goes by verdict and action
-same-publishes : (v w : ℕ) (m n : List ℕ) → v ≡ w → (v ≡ 0 → SameShown m n) → both (eqb v 0) (hasAction writesLine m) ≡ both (eqb w 0) (hasAction writesLine n)
+same-publishes : (v w : ℕ) (m n : Bytes) → v ≡ w → (v ≡ 0 → SameShown m n) → both (eqb v 0) (hasAction writesLine m) ≡ both (eqb w 0) (hasAction writesLine n)
 same-publishes v w m n e s = rw (← e) (by (eqb v 0) refl)
   where
     by : (b : Bool) → eqb v 0 ≡ b → both b (hasAction writesLine m) ≡ both b (hasAction writesLine n)
-    by true g = ap (λ (x : List ℕ). ofKind writesLine (actionOf x)) (s (eqb-true v 0 g) .0)
+    by true g = ap (λ (x : Bytes). ofKind writesLine (actionOf x)) (s (eqb-true v 0 g) .0)
     by false g = refl
 
-module _ (caps : Caps) (limits : Limits) (c₁ c₂ : Call) (h₁ h₂ : List Call) (l₁ l₂ : List ℕ) (es fs : List (List ℕ)) (p : Prior caps es fs)
+module _ (caps : Caps) (limits : Limits) (c₁ c₂ : Call) (h₁ h₂ : List Call) (l₁ l₂ : Bytes) (es fs : List Bytes) (p : Prior caps es fs)
     (q : Named (judgements limits l₁ (c₁ ∷ h₁)) (judgements limits l₂ (c₂ ∷ h₂)) es fs) (n : Near caps (judgements limits l₁ (c₁ ∷ h₁)) (judgements limits l₂ (c₂ ∷ h₂))) where
   same-verdict : answerTo limits l₁ c₁ .verdict ≡ answerTo limits l₂ c₂ .verdict
   unfolding judgements
@@ -170,7 +171,7 @@ module _ (caps : Caps) (limits : Limits) (c₁ c₂ : Call) (h₁ h₂ : List Ca
   near-after = near-rest caps _ _ _ _ n
 
   one-turn :
-      ((es′ fs′ : List (List ℕ)) → Prior caps es′ fs′ → Named (judgements limits (ledgerAfter limits l₁ c₁) h₁) (judgements limits (ledgerAfter limits l₂ c₂) h₂) es′ fs′
+      ((es′ fs′ : List Bytes) → Prior caps es′ fs′ → Named (judgements limits (ledgerAfter limits l₁ c₁) h₁) (judgements limits (ledgerAfter limits l₂ c₂) h₂) es′ fs′
       → told caps es′ (published limits (ledgerAfter limits l₁ c₁) h₁) ≡ told caps fs′ (published limits (ledgerAfter limits l₂ c₂) h₂))
       → (b : Bool) → publishes limits l₁ c₁ ≡ b → told caps es (published limits l₁ (c₁ ∷ h₁)) ≡ told caps fs (published limits l₂ (c₂ ∷ h₂))
   unfolding published told Prior
@@ -180,13 +181,13 @@ module _ (caps : Caps) (limits : Limits) (c₁ c₂ : Call) (h₁ h₂ : List Ca
       let t : Twins caps (messageOf c₁) (messageOf c₂) = twins v in
       let own : naming (swapOf (messageOf c₁)) es ≡ naming (swapOf (messageOf c₂)) fs = named-own v in
       rw (e, e₂)
-      (ap₂ {C = List ℕ} (λ (a b : List ℕ). a ++ b) (same-line caps (messageOf c₁) (messageOf c₂) es fs t (same-earlier caps (swapOf (messageOf c₁)) (swapOf (messageOf c₂)) es fs p own))
+      (ap₂ {C = Bytes} (λ (a b : Bytes). a ++ b) (same-line caps (messageOf c₁) (messageOf c₂) es fs t (same-earlier caps (swapOf (messageOf c₁)) (swapOf (messageOf c₂)) es fs p own))
       (rest (messageOf c₁ ∷ es) (messageOf c₂ ∷ fs) (t, p) (named-more v)))
   one-turn rest false e =
       let e₂ : publishes limits l₂ c₂ ≡ false = sym publish-alike ∙ e in
       rw (e, e₂) (rest es fs p named-rest)
 
-both-told : (caps : Caps) (limits : Limits) (h₁ h₂ : List Call) (l₁ l₂ : List ℕ) (es fs : List (List ℕ)) → Prior caps es fs
+both-told : (caps : Caps) (limits : Limits) (h₁ h₂ : List Call) (l₁ l₂ : Bytes) (es fs : List Bytes) → Prior caps es fs
     → Named (judgements limits l₁ h₁) (judgements limits l₂ h₂) es fs → Near caps (judgements limits l₁ h₁) (judgements limits l₂ h₂)
     → told caps es (published limits l₁ h₁) ≡ told caps fs (published limits l₂ h₂)
 unfolding judgements published told
@@ -199,7 +200,7 @@ both-told caps limits (c₁ ∷ h₁) (c₂ ∷ h₂) l₁ l₂ es fs p q n =
     (publishes limits l₁ c₁) refl
 
 -- two histories whose premises hold tell the same
-pub tell-same : (caps : Caps) (limits : Limits) (h₁ h₂ : List Call) (l₁ l₂ : List ℕ) → Alike caps (judgements limits l₁ h₁) (judgements limits l₂ h₂)
+pub tell-same : (caps : Caps) (limits : Limits) (h₁ h₂ : List Call) (l₁ l₂ : Bytes) → Alike caps (judgements limits l₁ h₁) (judgements limits l₂ h₂)
     → told caps [] (published limits l₁ h₁) ≡ told caps [] (published limits l₂ h₂)
 unfolding Prior
 tell-same caps limits h₁ h₂ l₁ l₂ a = both-told caps limits h₁ h₂ l₁ l₂ [] [] tt (λ i z. refl) (near caps _ _ a)

@@ -7,6 +7,7 @@ use native.Mathlib.Numerals.{add-one}
 use native.Mathlib.Omega.{arith}
 use lib.ListN.{length, take}
 use lib.Dec.{eqb}
+use Rattle.octets.specs.Bytes.{Bytes}
 use Rattle.octets.specs.Choice.{choose, both}
 use Rattle.octets.specs.Same.{sameBytes}
 use Rattle.octets.proofs.ChoiceLaws.{both-last, both-none}
@@ -31,18 +32,18 @@ use Rattle.submission.proofs.Turn.{by-turn, accepted-line}
 
 -- a ledger holds what the published messages say, the latest first: the next identifier is one more than their number, and each row that is found has the
 -- identifier of its swap's last line and the terms of its last full message
-pub record Holds (caps : Caps) (l : List ℕ) (earlier : List (List ℕ)) : Type 0 where
+pub record Holds (caps : Caps) (l : Bytes) (earlier : List Bytes) : Type 0 where
   pub caps-are : capsIn l ≡ caps
   pub next-is : nextIdentifier l ≡ suc (length earlier)
-  pub identifiers : (u : List ℕ) → length u ≤ utiSize → isKnown l u ≡ true → identifierOf (swapRow l u) ≡ lastIdentifier u earlier
-  pub terms : (u : List ℕ) → length u ≤ utiSize → isKnown l u ≡ true → storedTerms (swapRow l u) ≡ lastMasked caps u earlier
+  pub identifiers : (u : Bytes) → length u ≤ utiSize → isKnown l u ≡ true → identifierOf (swapRow l u) ≡ lastIdentifier u earlier
+  pub terms : (u : Bytes) → length u ≤ utiSize → isKnown l u ≡ true → storedTerms (swapRow l u) ≡ lastMasked caps u earlier
 
 -- NEWT shows no previous identifier
-new-line : (a : Action) (i p q : ℕ) (m terms : List ℕ) → isNew a ≡ true → line a i p m terms ≡ line a i q m terms
+new-line : (a : Action) (i p q : ℕ) (m terms : Bytes) → isNew a ≡ true → line a i p m terms ≡ line a i q m terms
 unfolding line lineFields
 new-line a i p q m terms e = rw e
 
-module _ {limits : Limits} (small : limits .largest < 256 ^ u32) {caps : Caps} {l t m : List ℕ} {earlier : List (List ℕ)} (h : Holds caps l earlier) {a : Action} (reads : actionIn m ≡ Value a) (f : Fits limits l t m a) where
+module _ {largest : ℕ} (small : largest < 256 ^ u32) {caps : Caps} {l m : Bytes} {earlier : List Bytes} (h : Holds caps l earlier) {a : Action} (reads : actionIn m ≡ Value a) (f : Fits largest l m a) where
   terms-told : termsFor a l m ≡ toldTerms caps earlier m
   unfolding termsFor toldTerms
   terms-told = rw (reads, h .caps-are) (by (isFull a) refl)
@@ -74,10 +75,10 @@ module _ {limits : Limits} (small : limits .largest < 256 ^ u32) {caps : Caps} {
       by false e = refl
 
   -- a field of the rows that some actions write, none of which is NEWT where they do not
-  still : {A : Type 0} (says last : List ℕ → A) (w : Bool) (x : A) → (w ≡ false → isNew a ≡ false)
+  still : {A : Type 0} (says last : Bytes → A) (w : Bool) (x : A) → (w ≡ false → isNew a ≡ false)
       → says (rowFor a l m) ≡ choose w x (says (rowAt l (placeFor a l m)))
-      → ((u : List ℕ) → length u ≤ utiSize → isKnown l u ≡ true → says (swapRow l u) ≡ last u)
-      → (u : List ℕ) → length u ≤ utiSize → isKnown (ledgerFor a l m) u ≡ true → says (swapRow (ledgerFor a l m) u) ≡ choose (both (sameBytes (swapOf m) u) w) x (last u)
+      → ((u : Bytes) → length u ≤ utiSize → isKnown l u ≡ true → says (swapRow l u) ≡ last u)
+      → (u : Bytes) → length u ≤ utiSize → isKnown (ledgerFor a l m) u ≡ true → says (swapRow (ledgerFor a l m) u) ≡ choose (both (sameBytes (swapOf m) u) w) x (last u)
   still says last w x old own before u short known = by (sameBytes (swapOf m) u) refl
     where
       written : (c : Bool) → w ≡ c → choose c x (says (rowAt l (placeFor a l m))) ≡ choose c x (last (swapOf m))
@@ -103,11 +104,11 @@ module _ {limits : Limits} (small : limits .largest < 256 ^ u32) {caps : Caps} {
       next true = refl
       next false = refl
 
-      last : (u : List ℕ) (b : Bool) → choose (both (sameBytes (swapOf m) u) b) (suc (length earlier)) (lastIdentifier u earlier) ≡ lastIdentifier u (choose b (m ∷ earlier) earlier)
+      last : (u : Bytes) (b : Bool) → choose (both (sameBytes (swapOf m) u) b) (suc (length earlier)) (lastIdentifier u earlier) ≡ lastIdentifier u (choose b (m ∷ earlier) earlier)
       last u true = rw (both-last (sameBytes (swapOf m) u) true refl)
       last u false = rw (both-none (sameBytes (swapOf m) u) false refl)
 
-      masked : (u : List ℕ) (b : Bool) → writesLine a ≡ b → choose (both (sameBytes (swapOf m) u) (isFull a)) (maskedTerms caps m) (lastMasked caps u earlier) ≡ lastMasked caps u (choose b (m ∷ earlier) earlier)
+      masked : (u : Bytes) (b : Bool) → writesLine a ≡ b → choose (both (sameBytes (swapOf m) u) (isFull a)) (maskedTerms caps m) (lastMasked caps u earlier) ≡ lastMasked caps u (choose b (m ∷ earlier) earlier)
       masked u true e = rw reads
       masked u false e = rw (line-if-full a e, both-none (sameBytes (swapOf m) u) false refl)
 
@@ -115,22 +116,23 @@ module _ {limits : Limits} (small : limits .largest < 256 ^ u32) {caps : Caps} {
 
 module _ (limits : Limits) (small : limits .largest < 256 ^ u32) {caps : Caps} where
   -- a call keeps what the ledger holds; where it writes a line, its message is one more that is published
-  pub kept-holding : {l : List ℕ} (c : Call) {earlier : List (List ℕ)} → Holds caps l earlier → Holds caps (ledgerAfter limits l c) (choose (publishes limits l c) (messageOf c ∷ earlier) earlier)
+  pub kept-holding : {l : Bytes} (c : Call) {earlier : List Bytes} → Holds caps l earlier → Holds caps (ledgerAfter limits l c) (choose (publishes limits l c) (messageOf c ∷ earlier) earlier)
   unfolding publishes
-  kept-holding {l} (submit m t) {earlier} h =
-      by-turn limits l t m (λ s. Holds caps (s .ledger) (choose (both (eqb (s .verdict) 0) (hasAction writesLine m)) (m ∷ earlier) earlier))
-      (λ a reads f. rw reads (after small h reads f (writesLine a) refl))
+  kept-holding {l} (submit m b) {earlier} h =
+      by-turn limits (record { ledger = l; buffers = b }) m (λ s. Holds caps (s .lent .ledger) (choose (both (eqb (s .verdict) 0) (hasAction writesLine m)) (m ∷ earlier) earlier))
+      (λ c. rw (c .reads) (after small h (c .reads) (c .fitting) (writesLine (c .action)) refl))
       (λ v z. rw z h)
 
   -- what it adds to the tape is the line that the published messages tell
-  line-is-told : {l : List ℕ} (c : Call) {earlier : List (List ℕ)} → Holds caps l earlier → lineOf limits l c ≡ choose (publishes limits l c) (toldLine caps earlier (messageOf c)) []
+  line-is-told : {l : Bytes} (c : Call) {earlier : List Bytes} → Holds caps l earlier → lineOf limits l c ≡ choose (publishes limits l c) (toldLine caps earlier (messageOf c)) []
   unfolding lineOf publishes
-  line-is-told {l} (submit m t) {earlier} h =
-      by-turn limits l t m (λ s. choose (both (eqb (s .verdict) 0) (hasAction writesLine m)) (take lineSize (s .tape)) [] ≡ choose (both (eqb (s .verdict) 0) (hasAction writesLine m)) (toldLine caps earlier m) [])
-      (λ a reads f. rw reads (accepted-line f ∙ rw (line-told small h reads f)))
+  line-is-told {l} (submit m b) {earlier} h =
+      by-turn limits (record { ledger = l; buffers = b }) m
+      (λ s. choose (both (eqb (s .verdict) 0) (hasAction writesLine m)) (take lineSize (s .lent .buffers .tape)) [] ≡ choose (both (eqb (s .verdict) 0) (hasAction writesLine m)) (toldLine caps earlier m) [])
+      (λ c. rw (c .reads) (accepted-line (c .action) l (b .tape) m (c .tape) ∙ rw (line-told small h (c .reads) (c .fitting))))
       (λ v z. rw z)
 
-  pub told-from : (cs : List Call) (l : List ℕ) (earlier : List (List ℕ)) → Holds caps l earlier → tape limits l cs ≡ told caps earlier (published limits l cs)
+  pub told-from : (cs : List Call) (l : Bytes) (earlier : List Bytes) → Holds caps l earlier → tape limits l cs ≡ told caps earlier (published limits l cs)
   unfolding tape published told
   told-from [] l earlier h = refl
   told-from (c ∷ cs) l earlier h = rw (line-is-told c h) (by (publishes limits l c) (told-from cs (ledgerAfter limits l c) _ (kept-holding c h)))

@@ -5,6 +5,7 @@ use mathlib.Core.Path.{_≡_}
 use mathlib.Core.Logic.{_↔_}
 use mathlib.Core.List.{List, _∷_, _++_}
 use lib.ListN.{length}
+use Rattle.octets.specs.Bytes.{Bytes}
 use Rattle.octets.specs.Choice.{choose}
 use Rattle.ledger.specs.declared.header.Caps.{Caps}
 use Rattle.ledger.specs.Layout.{u32}
@@ -15,12 +16,12 @@ use Rattle.submission.specs.Published.{published}
 
 -- on any ledger, a call answers an identifier other than 0 exactly where it writes a line
 abbrev pub Identifier-with-line : Type 0
-Identifier-with-line = (limits : Limits) (l : List ℕ) (c : Call) → (answerTo limits l c .identifier ≡ 0 → ⊥) ↔ (publishes limits l c ≡ true)
+Identifier-with-line = (limits : Limits) (l : Bytes) (c : Call) → (answerTo limits l c .identifier ≡ 0 → ⊥) ↔ (publishes limits l c ≡ true)
 
 -- after any calls since opening, the identifier that a line takes is one more than the number of lines published since opening
 abbrev pub Identifier-counts : Type 0
 Identifier-counts =
-    (limits : Limits) (caps : Caps) (l : List ℕ) (before : List Call) (c : Call)
+    (limits : Limits) (caps : Caps) (l : Bytes) (before : List Call) (c : Call)
     → limits .largest < 256 ^ u32
     → opened limits caps l .verdict ≡ 0
     → answerTo limits (ledgerAfterAll limits (start limits caps l) before) c .identifier
@@ -29,14 +30,14 @@ Identifier-counts =
 -- what holds of a ledger and is kept by each call holds of every ledger that calls lead to
 abbrev pub Kept-by-calls : Type 1
 Kept-by-calls =
-    (limits : Limits) (Holds : List ℕ → Type 0)
-    → ((l : List ℕ) (c : Call) → Holds l → Holds (ledgerAfter limits l c))
-    → (l : List ℕ) (cs : List Call) → Holds l → Holds (ledgerAfterAll limits l cs)
+    (limits : Limits) (Holds : Bytes → Type 0)
+    → ((l : Bytes) (c : Call) → Holds l → Holds (ledgerAfter limits l c))
+    → (l : Bytes) (cs : List Call) → Holds l → Holds (ledgerAfterAll limits l cs)
 
 -- on any ledger, a call that writes neither ledger nor line leaves the rest of the tape as it would have been
 abbrev pub Quiet-call : Type 0
 Quiet-call =
-    (limits : Limits) (l : List ℕ) (before : List Call) (c : Call) (after : List Call)
+    (limits : Limits) (l : Bytes) (before : List Call) (c : Call) (after : List Call)
     → ledgerAfter limits (ledgerAfterAll limits l before) c ≡ ledgerAfterAll limits l before
     → publishes limits (ledgerAfterAll limits l before) c ≡ false
     → tape limits l (before ++ (c ∷ after)) ≡ tape limits l (before ++ after)

@@ -4,6 +4,7 @@ use Prim.Native.Nat.{ℕ}
 use mathlib.Core.Bool.{true}
 use mathlib.Core.Path.{_≡_}
 use mathlib.Core.List.{List}
+use Rattle.octets.specs.Bytes.{Bytes}
 use Rattle.actions.specs.declared.Action.{Action}
 use Rattle.actions.specs.declared.Checked.the-variants.{Value}
 use Rattle.actions.specs.Actions.{actionCode}
@@ -15,37 +16,37 @@ use Rattle.rules.specs.Rules.{atFault, numberOf}
 use Rattle.ledger.specs.declared.header.Caps.{Caps}
 use Rattle.submission.specs.Verdicts.{openingNumbers, submissionNumbers, questionNumbers}
 use Rattle.submission.specs.Opening.{Limits, opened}
+use Rattle.submission.specs.Lent.{Lent}
 use Rattle.submission.specs.Submission.{Submitted, submitted, actionIn}
 use Rattle.submission.specs.Status.{Asked, asked}
 
 -- 7, 8, 9 and 11 name the lowest element code at fault
-pub record NamesLowest (check : Check) (m : List ℕ) (element : ℕ) : Type 0 where
+pub record NamesLowest (check : Check) (m : Bytes) (element : ℕ) : Type 0 where
   pub action : Action
   pub reads : actionIn m ≡ Value action
   pub lowest : LowestAtFault (atFault check action m) element
 
 -- the element that a submission names: those four, 6 names 2; elsewhere the element is 0
-pub record Names (s : Submitted) (m : List ℕ) : Type 0 where
+pub record Names (s : Submitted) (m : Bytes) : Type 0 where
   pub lowest : (check : Check) → s .verdict ≡ numberOf check → NamesLowest check m (s .element)
   pub action : s .verdict ≡ noAction → s .element ≡ actionCode
   pub nothing : (s .verdict ≡ noAction → ⊥) → ((check : Check) → s .verdict ≡ numberOf check → ⊥) → s .element ≡ 0
 
--- a refusal: its number, and nothing is changed or answered beside it
-pub record Refusal (s : Submitted) (l t : List ℕ) : Type 0 where
+-- a refusal: its number, no identifier beside it, and no byte of ledger or tape buffer is changed
+pub record Refusal (s : Submitted) (lent : Lent) : Type 0 where
   pub number : isOneOf submissionNumbers (s .verdict) ≡ true
   pub identifier : s .identifier ≡ 0
-  pub ledger : s .ledger ≡ l
-  pub tape : s .tape ≡ t
+  pub unchanged : s .lent ≡ lent
 
 abbrev pub Submission-answers : Type 0
 Submission-answers =
-    (limits : Limits) (l t m : List ℕ)
-    → Names (submitted limits l t m) m × ((submitted limits l t m .verdict ≡ 0 → ⊥) → Refusal (submitted limits l t m) l t)
+    (limits : Limits) (lent : Lent) (m : Bytes)
+    → Names (submitted limits lent m) m × ((submitted limits lent m .verdict ≡ 0 → ⊥) → Refusal (submitted limits lent m) lent)
 
 -- a refused opening has its number and writes nothing
 abbrev pub Opening-answers : Type 0
 Opening-answers =
-    (limits : Limits) (caps : Caps) (l : List ℕ)
+    (limits : Limits) (caps : Caps) (l : Bytes)
     → (opened limits caps l .verdict ≡ 0 → ⊥)
     → (isOneOf openingNumbers (opened limits caps l .verdict) ≡ true) × (opened limits caps l .ledger ≡ l)
 
@@ -57,4 +58,4 @@ pub record Question (a : Asked) : Type 0 where
   pub refused : (a .verdict ≡ 0 → ⊥) → (a .status ≡ 0) × (a .identifier ≡ 0)
 
 abbrev pub Question-answers : Type 0
-Question-answers = (limits : Limits) (l u : List ℕ) → Question (asked limits l u)
+Question-answers = (limits : Limits) (l u : Bytes) → Question (asked limits l u)

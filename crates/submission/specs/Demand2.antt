@@ -5,6 +5,7 @@ use mathlib.Core.Path.{_≡_}
 use mathlib.Core.Logic.{_↔_}
 use mathlib.Core.List.{List, map}
 use lib.ListN.{length, getD, drop}
+use Rattle.octets.specs.Bytes.{Bytes}
 use Rattle.octets.specs.Choice.{choose}
 use Rattle.octets.specs.Part.{part}
 use Rattle.octets.specs.Fields.{Placed}
@@ -21,10 +22,11 @@ use Rattle.rules.specs.Rules.{verdict}
 use Rattle.ledger.specs.declared.header.Caps.{Caps}
 use Rattle.ledger.specs.Layout.{u32, u64, rowsAt, nextAt, statusAt, lengthAt, identifierAt, tailAt, tailSize, headerSize, rowSize, rowStart, shortestLedger, lineSize, identifierLimit}
 use Rattle.ledger.specs.Header.{rowsInUse, nextIdentifier, capacityIn, capsIn, areCaps, capacityFor, headerRight, RightHeader, headerFields}
-use Rattle.ledger.specs.Rows.{rowAt, statusOf, identifierOf, storedTerms, storedTime, isKnown, swapRow, swapStatus, swapIdentifier, rowFields}
+use Rattle.ledger.specs.Rows.{rowAt, statusOf, identifierOf, storedTerms, storedTime, isKnown, swapRow, swapStatus, swapIdentifier, swapIn, rowFields}
 use Rattle.ledger.specs.Line.{lineFields}
 use Rattle.submission.specs.Verdicts.{ledgerShort, capWrong, ledgerWrong, rowWrong, submissionNumbers}
 use Rattle.submission.specs.Opening.{Limits, opened}
+use Rattle.submission.specs.Lent.{Lent}
 use Rattle.submission.specs.Status.{asked}
 use Rattle.submission.specs.Submission.{Submitted, submitted, swapOf, actionIn, hasWrongRow, rulesOn, submissionRules, maskedTerms, termsFor, placeFor}
 
@@ -33,36 +35,36 @@ use Rattle.submission.specs.Submission.{Submitted, submitted, swapOf, ac
 -- verdict and element are those of a rule exactly where the rule is broken and no earlier one is
 abbrev pub Verdict-exactly : Type 0
 Verdict-exactly =
-    (limits : Limits) (l t m : List ℕ) (n e : ℕ)
+    (limits : Limits) (lent : Lent) (m : Bytes) (n e : ℕ)
     → 0 < n
-    → ((submitted limits l t m .verdict ≡ n) × (submitted limits l t m .element ≡ e)) ↔ FirstBroken (rulesOn limits l t m) n e
+    → ((submitted limits lent m .verdict ≡ n) × (submitted limits lent m .element ≡ e)) ↔ FirstBroken (rulesOn limits lent m) n e
 
 -- the rules of a message with an action have these numbers, in this order
 abbrev pub Checking-order : Type 0
-Checking-order = (limits : Limits) (a : Action) (l t m : List ℕ) → map ruleNumber (submissionRules limits (Value a) l t m) ≡ submissionNumbers
+Checking-order = (limits : Limits) (a : Action) (lent : Lent) (m : Bytes) → map ruleNumber (submissionRules limits (Value a) lent m) ≡ submissionNumbers
 
 -- a row that 14 lets pass
-pub record RightRow (next : ℕ) (r : List ℕ) : Type 0 where
+pub record RightRow (next : ℕ) (r : Bytes) : Type 0 where
   pub least : live ≤ statusOf r
   pub most : statusOf r ≤ ported
   pub given : 1 ≤ identifierOf r
   pub before : identifierOf r < next
 
 -- what document 01 asks of a message that is accepted, in words: 3 and 4, the message alone (5 to 13), and 14 to 18
-pub record Sound (limits : Limits) (l t m : List ℕ) : Type 0 where
+pub record Sound (limits : Limits) (lent : Lent) (m : Bytes) : Type 0 where
   pub action : Action
   pub reads : actionIn m ≡ Value action
-  pub header : RightHeader (limits .largest) l
-  pub tape : lineSize ≤ length t
+  pub header : RightHeader (limits .largest) (lent .ledger)
+  pub tape : lineSize ≤ length (lent .buffers .tape)
   pub message : verdict (limits .longest) m ≡ (0, 0)
-  pub row : isKnown l (swapOf m) ≡ true → RightRow (nextIdentifier l) (swapRow l (swapOf m))
-  pub step : nextStatus action (swapStatus l (swapOf m)) ≡ noStep → ⊥
-  pub time : repeatsTime action ≡ true → value executionTime m ≡ storedTime (swapRow l (swapOf m))
-  pub room : isNew action ≡ true → rowsInUse l ≡ capacityIn l → ⊥
-  pub spare : writesLine action ≡ true → nextIdentifier l ≡ identifierLimit → ⊥
+  pub row : isKnown (lent .ledger) (swapOf m) ≡ true → RightRow (nextIdentifier (lent .ledger)) (swapRow (lent .ledger) (swapOf m))
+  pub step : nextStatus action (swapStatus (lent .ledger) (swapOf m)) ≡ noStep → ⊥
+  pub time : repeatsTime action ≡ true → value executionTime m ≡ storedTime (swapRow (lent .ledger) (swapOf m))
+  pub room : isNew action ≡ true → rowsInUse (lent .ledger) ≡ capacityIn (lent .ledger) → ⊥
+  pub spare : writesLine action ≡ true → nextIdentifier (lent .ledger) ≡ identifierLimit → ⊥
 
 abbrev pub Accepted-exactly : Type 0
-Accepted-exactly = (limits : Limits) (l t m : List ℕ) → (submitted limits l t m .verdict ≡ 0) ↔ Sound limits l t m
+Accepted-exactly = (limits : Limits) (lent : Lent) (m : Bytes) → (submitted limits lent m .verdict ≡ 0) ↔ Sound limits lent m
 
 -- ---- what an accepted message writes
 
@@ -71,7 +73,7 @@ abbrev pub Outside : ℕ → ℕ → ℕ → Type 0
 Outside at n i = at ≤ i → at + n ≤ i
 
 -- the swap's row, rows in use, the next identifier, and every other byte of the ledger
-pub record LedgerWritten (a : Action) (l m l′ : List ℕ) : Type 0 where
+pub record LedgerWritten (a : Action) (l m l′ : Bytes) : Type 0 where
   -- NEWT writes the whole next row, field by field
   pub whole : isNew a ≡ true → Placed statusAt (rowFields live (swapOf m) (nextIdentifier l) (maskedTerms (capsIn l) m)) (rowAt l′ (rowsInUse l))
   -- every action writes the status; those with a line the identifier; full ones the terms
@@ -88,55 +90,55 @@ pub record LedgerWritten (a : Action) (l m l′ : List ℕ) : Type 0 where
   pub long : length l′ ≡ length l
   pub others : (i : ℕ) → Outside (rowStart (placeFor a l m)) rowSize i → (isNew a ≡ true → Outside rowsAt u32 i) → (writesLine a ≡ true → Outside nextAt u64 i) → getD l′ i 0 ≡ getD l i 0
 
--- the line in the first 146 bytes of the tape buffer, and every later byte; PRTO writes no byte
-pub record TapeWritten (a : Action) (l t m t′ : List ℕ) : Type 0 where
+-- the line at the front of the tape buffer, and every later byte; PRTO writes no byte
+pub record TapeWritten (a : Action) (l t m t′ : Bytes) : Type 0 where
   pub line : writesLine a ≡ true → Placed 0 (lineFields a (nextIdentifier l) (swapIdentifier l (swapOf m)) m (termsFor a l m)) t′
   pub later : drop lineSize t′ ≡ drop lineSize t
   pub long : length t′ ≡ length t
   pub none : writesLine a ≡ false → t′ ≡ t
 
 -- an accepted message
-pub record Written (l t m : List ℕ) (s : Submitted) : Type 0 where
+pub record Written (lent : Lent) (m : Bytes) (s : Submitted) : Type 0 where
   pub action : Action
   pub reads : actionIn m ≡ Value action
-  pub ledger : LedgerWritten action l m (s .ledger)
-  pub tape : TapeWritten action l t m (s .tape)
-  pub identifier : s .identifier ≡ choose (writesLine action) (nextIdentifier l) 0
+  pub ledger : LedgerWritten action (lent .ledger) m (s .lent .ledger)
+  pub tape : TapeWritten action (lent .ledger) (lent .buffers .tape) m (s .lent .buffers .tape)
+  pub identifier : s .identifier ≡ choose (writesLine action) (nextIdentifier (lent .ledger)) 0
 
 abbrev pub Acceptance-writes : Type 0
-Acceptance-writes = (limits : Limits) (l t m : List ℕ) → limits .largest < 256 ^ u32 → submitted limits l t m .verdict ≡ 0 → Written l t m (submitted limits l t m)
+Acceptance-writes = (limits : Limits) (lent : Lent) (m : Bytes) → limits .largest < 256 ^ u32 → submitted limits lent m .verdict ≡ 0 → Written lent m (submitted limits lent m)
 
 -- ---- opening
 
 -- 1, then 2
-pub record OpeningExactly (caps : Caps) (l : List ℕ) (v : ℕ) : Type 0 where
+pub record OpeningExactly (caps : Caps) (l : Bytes) (v : ℕ) : Type 0 where
   pub short : (v ≡ ledgerShort) ↔ (length l < shortestLedger)
   pub cap : (v ≡ capWrong) ↔ ((shortestLedger ≤ length l) × (areCaps caps ≡ false))
   pub accepted : (v ≡ 0) ↔ ((shortestLedger ≤ length l) × (areCaps caps ≡ true))
 
 abbrev pub Opening-exactly : Type 0
-Opening-exactly = (limits : Limits) (caps : Caps) (l : List ℕ) → OpeningExactly caps l (opened limits caps l .verdict)
+Opening-exactly = (limits : Limits) (caps : Caps) (l : Bytes) → OpeningExactly caps l (opened limits caps l .verdict)
 
 -- the header, field by field, and every later byte
-pub record HeaderWritten (limits : Limits) (caps : Caps) (l l′ : List ℕ) : Type 0 where
+pub record HeaderWritten (limits : Limits) (caps : Caps) (l l′ : Bytes) : Type 0 where
   pub header : Placed rowsAt (headerFields caps (capacityFor (limits .largest) (length l))) l′
   pub later : drop headerSize l′ ≡ drop headerSize l
   pub long : length l′ ≡ length l
 
 abbrev pub Opening-writes : Type 0
-Opening-writes = (limits : Limits) (caps : Caps) (l : List ℕ) → opened limits caps l .verdict ≡ 0 → HeaderWritten limits caps l (opened limits caps l .ledger)
+Opening-writes = (limits : Limits) (caps : Caps) (l : Bytes) → opened limits caps l .verdict ≡ 0 → HeaderWritten limits caps l (opened limits caps l .ledger)
 
 -- ---- the status question
 
 -- 3, then 9, then 14
-pub record QuestionExactly (limits : Limits) (l u : List ℕ) (v : ℕ) : Type 0 where
+pub record QuestionExactly (limits : Limits) (l u : Bytes) (v : ℕ) : Type 0 where
   pub ledger : (v ≡ ledgerWrong) ↔ (headerRight (limits .largest) l ≡ false)
   pub form : (v ≡ formBroken) ↔ ((headerRight (limits .largest) l ≡ true) × (hasForm uti u ≡ false))
-  pub row : (v ≡ rowWrong) ↔ ((headerRight (limits .largest) l ≡ true) × (hasForm uti u ≡ true) × (hasWrongRow l u ≡ true))
-  pub accepted : (v ≡ 0) ↔ ((headerRight (limits .largest) l ≡ true) × (hasForm uti u ≡ true) × (hasWrongRow l u ≡ false))
+  pub row : (v ≡ rowWrong) ↔ ((headerRight (limits .largest) l ≡ true) × (hasForm uti u ≡ true) × (hasWrongRow (nextIdentifier l) (swapIn l u) ≡ true))
+  pub accepted : (v ≡ 0) ↔ ((headerRight (limits .largest) l ≡ true) × (hasForm uti u ≡ true) × (hasWrongRow (nextIdentifier l) (swapIn l u) ≡ false))
 
 abbrev pub Question-exactly : Type 0
 Question-exactly =
-    (limits : Limits) (l u : List ℕ)
+    (limits : Limits) (l u : Bytes)
     → QuestionExactly limits l u (asked limits l u .verdict)
     × (asked limits l u .verdict ≡ 0 → (asked limits l u .status ≡ swapStatus l u) × (asked limits l u .identifier ≡ swapIdentifier l u))

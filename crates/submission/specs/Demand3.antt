@@ -5,6 +5,7 @@ use mathlib.Core.Logic.{_↔_}
 use mathlib.Core.List.{List, [], _∷_}
 use lib.ListN.{length, take, getD}
 use lib.Dec.{eqb}
+use Rattle.octets.specs.Bytes.{Bytes}
 use Rattle.octets.specs.Choice.{choose, both}
 use Rattle.octets.specs.Same.{sameBytes}
 use Rattle.message.specs.Values.{value}
@@ -20,7 +21,7 @@ use Rattle.submission.specs.History.{Call, tape, Judgement, judgements, 
 abbrev pub nowhere : Judgement
 nowhere = record { message = []; verdict = 0 }
 
-abbrev pub messageAt : List Judgement → ℕ → List ℕ
+abbrev pub messageAt : List Judgement → ℕ → Bytes
 messageAt js i = getD js i nowhere .message
 
 abbrev pub verdictAt : List Judgement → ℕ → ℕ
@@ -30,23 +31,23 @@ abbrev pub Accepted : List Judgement → ℕ → Type 0
 Accepted js i = (i < length js) × (verdictAt js i ≡ 0)
 
 -- the masked terms of the last accepted full message of the swap u in a list, or `terms` where it has none
-unfoldable pub lastTerms : Caps → List ℕ → List Judgement → List ℕ → List ℕ
+unfoldable pub lastTerms : Caps → Bytes → List Judgement → Bytes → Bytes
 lastTerms caps u [] terms = terms
 lastTerms caps u (j ∷ js) terms =
     lastTerms caps u js
     (choose (both (eqb (j .verdict) 0) (both (hasAction isFull (j .message)) (sameBytes (swapOf (j .message)) u))) (maskedTerms caps (j .message)) terms)
 
 -- a full message's own; TERM and EROR have those of their swap's last accepted full message earlier in the list, others none
-unfoldable pub maskedTermsAt : Caps → List Judgement → ℕ → List ℕ
+unfoldable pub maskedTermsAt : Caps → List Judgement → ℕ → Bytes
 maskedTermsAt caps js i =
-    let m : List ℕ = messageAt js i in
+    let m : Bytes = messageAt js i in
     choose (hasAction isFull m) (maskedTerms caps m)
     (choose (hasAction writesLine m) (lastTerms caps (swapOf m) (take i js) []) [])
 
 -- ---- the premises
 
 -- two accepted messages agree in action, event (or its absence) and event time
-abbrev pub SameShown : List ℕ → List ℕ → Type 0
+abbrev pub SameShown : Bytes → Bytes → Type 0
 SameShown m₁ m₂ = (value actionCode m₁ ≡ value actionCode m₂) × (value eventType m₁ ≡ value eventType m₂) × (value eventTime m₁ ≡ value eventTime m₂)
 
 pub record Alike (caps : Caps) (js ks : List Judgement) : Type 0 where
@@ -62,14 +63,14 @@ pub record Alike (caps : Caps) (js ks : List Judgement) : Type 0 where
 -- ---- the claim
 
 -- the ledger that opening leaves
-abbrev pub start : Limits → Caps → List ℕ → List ℕ
+abbrev pub start : Limits → Caps → Bytes → Bytes
 start limits caps l = opened limits caps l .ledger
 
 -- two ledgers, of any length, that opening answered with 0, and two lists of calls that meet the premises: the tapes are equal, byte for byte. The largest
 -- capacity is one that the header's field can hold
 abbrev pub Same-tapes : Type 0
 Same-tapes =
-    (limits : Limits) (caps : Caps) (l₁ l₂ : List ℕ) (h₁ h₂ : List Call)
+    (limits : Limits) (caps : Caps) (l₁ l₂ : Bytes) (h₁ h₂ : List Call)
     → limits .largest < 256 ^ u32
     → opened limits caps l₁ .verdict ≡ 0
     → opened limits caps l₂ .verdict ≡ 0

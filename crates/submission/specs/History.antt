@@ -4,6 +4,7 @@ use mathlib.Core.Bool.{Bool, false}
 use mathlib.Core.List.{List, [], _∷_, _++_}
 use lib.ListN.{take}
 use lib.Dec.{eqb}
+use Rattle.octets.specs.Bytes.{Bytes}
 use Rattle.octets.specs.Choice.{choose, both}
 use Rattle.actions.specs.declared.Action.{Action}
 use Rattle.actions.specs.declared.Checked.{Checked}
@@ -11,23 +12,24 @@ use Rattle.actions.specs.declared.Checked.the-variants.{Fault, Value}
 use Rattle.actions.specs.Actions.{writesLine}
 use Rattle.ledger.specs.Layout.{lineSize}
 use Rattle.submission.specs.Opening.{Limits}
+use Rattle.submission.specs.Lent.{Buffers}
 use Rattle.submission.specs.Submission.{Submitted, submitted, actionIn}
 
--- a call, with what is lent for it: a message is submitted with a tape buffer
+-- a call, with the buffers that are lent for it beside the ledger: a message is submitted
 pub data Call : Type 0 where
-  submit : (message tape : List ℕ) → Call
+  submit : (message : Bytes) (buffers : Buffers) → Call
 
-abbrev pub answerTo : Limits → List ℕ → Call → Submitted
-answerTo limits l (submit m t) = submitted limits l t m
+abbrev pub answerTo : Limits → Bytes → Call → Submitted
+answerTo limits l (submit m b) = submitted limits (record { ledger = l; buffers = b }) m
 
-abbrev pub messageOf : Call → List ℕ
-messageOf (submit m t) = m
+abbrev pub messageOf : Call → Bytes
+messageOf (submit m b) = m
 
 -- each call finds the ledger as the one before left it
-abbrev pub ledgerAfter : Limits → List ℕ → Call → List ℕ
-ledgerAfter limits l c = answerTo limits l c .ledger
+abbrev pub ledgerAfter : Limits → Bytes → Call → Bytes
+ledgerAfter limits l c = answerTo limits l c .lent .ledger
 
-unfoldable pub ledgerAfterAll : Limits → List ℕ → List Call → List ℕ
+unfoldable pub ledgerAfterAll : Limits → Bytes → List Call → Bytes
 ledgerAfterAll limits l [] = l
 ledgerAfterAll limits l (c ∷ cs) = ledgerAfterAll limits (ledgerAfter limits l c) cs
 
@@ -38,29 +40,29 @@ abbrev pub ofKind : (Action → Bool) → Checked → Bool
 ofKind kind (Fault code) = false
 ofKind kind (Value a) = kind a
 
-abbrev pub hasAction : (Action → Bool) → List ℕ → Bool
+abbrev pub hasAction : (Action → Bool) → Bytes → Bool
 hasAction kind m = ofKind kind (actionIn m)
 
 -- every accepted message but PRTO writes a line
-unfoldable pub publishes : Limits → List ℕ → Call → Bool
+unfoldable pub publishes : Limits → Bytes → Call → Bool
 publishes limits l c = both (eqb (answerTo limits l c .verdict) 0) (hasAction writesLine (messageOf c))
 
--- the first 146 bytes of the tape buffer, as the submission left them
-unfoldable pub lineOf : Limits → List ℕ → Call → List ℕ
-lineOf limits l c = choose (publishes limits l c) (take lineSize (answerTo limits l c .tape)) []
+-- the line in the tape buffer, as the submission left it
+unfoldable pub lineOf : Limits → Bytes → Call → Bytes
+lineOf limits l c = choose (publishes limits l c) (take lineSize (answerTo limits l c .lent .buffers .tape)) []
 
 -- the tape is all lines since opening in order, each as its submission left it
-unfoldable pub tape : Limits → List ℕ → List Call → List ℕ
+unfoldable pub tape : Limits → Bytes → List Call → Bytes
 tape limits l [] = []
 tape limits l (c ∷ cs) = lineOf limits l c ++ tape limits (ledgerAfter limits l c) cs
 
 -- ---- what is known of a history without its ledger: each message and its verdict number
 
 pub record Judgement : Type 0 where
-  pub message : List ℕ
+  pub message : Bytes
   pub verdict : ℕ
 
-unfoldable pub judgements : Limits → List ℕ → List Call → List Judgement
+unfoldable pub judgements : Limits → Bytes → List Call → List Judgement
 judgements limits l [] = []
 judgements limits l (c ∷ cs) =
     record { message = messageOf c; verdict = answerTo limits l c .verdict }

@@ -1,5 +1,6 @@
 pub mod Verdicts
 pub mod Opening
+pub mod Lent
 pub mod Submission
 pub mod Status
 pub mod Demand1

@@ -4,6 +4,7 @@ use mathlib.Core.Bool.{not}
 use mathlib.Core.List.{List, [], _∷_}
 use lib.ListN.{length}
 use lib.Dec.{eqb, ltb}
+use Rattle.octets.specs.Bytes.{Bytes}
 use Rattle.octets.specs.Choice.{choose}
 use Rattle.octets.specs.Part.{splice}
 use Rattle.rules.specs.Findings.{Rule, test, firstBroken}
@@ -24,19 +25,19 @@ documentLimits = record { longest = 2_048; largest = 100_000 }
 -- what opening answers and leaves
 pub record Opened : Type 0 where
   pub verdict : ℕ
-  pub ledger : List ℕ
+  pub ledger : Bytes
 
-unfoldable pub openingRules : Caps → List ℕ → List Rule
+unfoldable pub openingRules : Caps → Bytes → List Rule
 openingRules caps l =
     test ledgerShort (ltb (length l) shortestLedger)
     ∷ test capWrong (not (areCaps caps))
     ∷ []
 
-unfoldable pub openingVerdict : Caps → List ℕ → ℕ
+unfoldable pub openingVerdict : Caps → Bytes → ℕ
 openingVerdict caps l = firstBroken (openingRules caps l) .0
 
 -- opening writes the header and no other byte; a refusal writes nothing
-unfoldable pub opened : Limits → Caps → List ℕ → Opened
+unfoldable pub opened : Limits → Caps → Bytes → Opened
 opened limits caps l =
     record {
       verdict = openingVerdict caps l;

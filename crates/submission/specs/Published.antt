@@ -3,6 +3,7 @@ use Prim.Native.Nat.{ℕ, suc, _^_, _<_}
 use mathlib.Core.Path.{_≡_}
 use mathlib.Core.List.{List, [], _∷_, _++_}
 use lib.ListN.{length}
+use Rattle.octets.specs.Bytes.{Bytes}
 use Rattle.octets.specs.Choice.{choose, both}
 use Rattle.octets.specs.Same.{sameBytes}
 use Rattle.actions.specs.declared.Checked.{Checked}
@@ -17,7 +18,7 @@ use Rattle.submission.specs.History.{Call, messageOf, ledgerAfter, hasAc
 use Rattle.submission.specs.Demand3.{start}
 
 -- the messages of a history that wrote a line
-unfoldable pub published : Limits → List ℕ → List Call → List (List ℕ)
+unfoldable pub published : Limits → Bytes → List Call → List Bytes
 published limits l [] = []
 published limits l (c ∷ cs) =
     choose (publishes limits l c) (messageOf c ∷ published limits (ledgerAfter limits l c) cs) (published limits (ledgerAfter limits l c) cs)
@@ -25,35 +26,35 @@ published limits l (c ∷ cs) =
 -- ---- `earlier` are published messages, the latest first
 
 -- the identifier of the swap's last line, 0 where it has none: the first line took 1, the second 2
-unfoldable pub lastIdentifier : List ℕ → List (List ℕ) → ℕ
+unfoldable pub lastIdentifier : Bytes → List Bytes → ℕ
 lastIdentifier u [] = 0
 lastIdentifier u (e ∷ earlier) = choose (sameBytes (swapOf e) u) (suc (length earlier)) (lastIdentifier u earlier)
 
 -- the masked terms of the swap's last full message
-unfoldable pub lastMasked : Caps → List ℕ → List (List ℕ) → List ℕ
+unfoldable pub lastMasked : Caps → Bytes → List Bytes → Bytes
 lastMasked caps u [] = []
 lastMasked caps u (e ∷ earlier) =
     choose (both (sameBytes (swapOf e) u) (hasAction isFull e)) (maskedTerms caps e) (lastMasked caps u earlier)
 
-unfoldable pub toldTerms : Caps → List (List ℕ) → List ℕ → List ℕ
+unfoldable pub toldTerms : Caps → List Bytes → Bytes → Bytes
 toldTerms caps earlier m = choose (hasAction isFull m) (maskedTerms caps m) (lastMasked caps (swapOf m) earlier)
 
-abbrev pub lineBy : Checked → ℕ → ℕ → List ℕ → List ℕ → List ℕ
+abbrev pub lineBy : Checked → ℕ → ℕ → Bytes → Bytes → Bytes
 lineBy (Fault code) identifier previous m terms = []
 lineBy (Value a) identifier previous m terms = line a identifier previous m terms
 
 -- the line of a message that is published after the earlier ones
-unfoldable pub toldLine : Caps → List (List ℕ) → List ℕ → List ℕ
+unfoldable pub toldLine : Caps → List Bytes → Bytes → Bytes
 toldLine caps earlier m = lineBy (actionIn m) (suc (length earlier)) (lastIdentifier (swapOf m) earlier) m (toldTerms caps earlier m)
 
-unfoldable pub told : Caps → List (List ℕ) → List (List ℕ) → List ℕ
+unfoldable pub told : Caps → List Bytes → List Bytes → Bytes
 told caps earlier [] = []
 told caps earlier (m ∷ ms) = toldLine caps earlier m ++ told caps (m ∷ earlier) ms
 
 -- the tape says what the published messages and the caps say, and nothing else
 abbrev pub Tape-told : Type 0
 Tape-told =
-    (limits : Limits) (caps : Caps) (l : List ℕ) (h : List Call)
+    (limits : Limits) (caps : Caps) (l : Bytes) (h : List Call)
     → limits .largest < 256 ^ u32
     → opened limits caps l .verdict ≡ 0
     → tape limits (start limits caps l) h ≡ told caps [] (published limits (start limits caps l) h)

@@ -3,13 +3,14 @@ use Prim.Native.Nat.{ℕ}
 use mathlib.Core.Bool.{not}
 use mathlib.Core.List.{List, [], _∷_}
 use lib.Dec.{eqb}
+use Rattle.octets.specs.Bytes.{Bytes}
 use Rattle.octets.specs.Choice.{choose}
 use Rattle.elements.specs.Codes.{uti}
 use Rattle.elements.specs.Forms.{hasForm}
 use Rattle.rules.specs.Verdicts.{formBroken}
 use Rattle.rules.specs.Findings.{passed, broken, Rule, test, naming, firstBroken}
-use Rattle.ledger.specs.Header.{headerRight}
-use Rattle.ledger.specs.Rows.{swapStatus, swapIdentifier}
+use Rattle.ledger.specs.Header.{nextIdentifier, headerRight}
+use Rattle.ledger.specs.Rows.{swapStatus, swapIdentifier, swapIn}
 use Rattle.submission.specs.Verdicts.{ledgerWrong, rowWrong}
 use Rattle.submission.specs.Opening.{Limits}
 use Rattle.submission.specs.Submission.{hasWrongRow}
@@ -22,15 +23,15 @@ pub record Asked : Type 0 where
   pub identifier : ℕ
 
 -- 3, then 9 with element 1, then 14
-unfoldable pub statusRules : Limits → List ℕ → List ℕ → List Rule
+unfoldable pub statusRules : Limits → Bytes → Bytes → List Rule
 statusRules limits l u =
     test ledgerWrong (not (headerRight (limits .largest) l))
     ∷ naming formBroken (choose (hasForm uti u) passed (broken uti))
-    ∷ test rowWrong (hasWrongRow l u)
+    ∷ test rowWrong (hasWrongRow (nextIdentifier l) (swapIn l u))
     ∷ []
 
 -- beside a refusal, status and identifier are 0; else the status, 0 for an unknown swap, and the last identifier, 0 if unknown
-abbrev pub answered : ℕ × ℕ → List ℕ → List ℕ → Asked
+abbrev pub answered : ℕ × ℕ → Bytes → Bytes → Asked
 answered v l u =
     record {
       verdict = v .0;
@@ -39,5 +40,5 @@ answered v l u =
       identifier = choose (eqb (v .0) 0) (swapIdentifier l u) 0;
     }
 
-unfoldable pub asked : Limits → List ℕ → List ℕ → Asked
+unfoldable pub asked : Limits → Bytes → Bytes → Asked
 asked limits l u = answered (firstBroken (statusRules limits l u)) l u

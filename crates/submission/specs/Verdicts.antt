@@ -2,7 +2,7 @@
 use Prim.Native.Nat.{ℕ}
 use mathlib.Core.List.{List, [], _∷_}
 
--- The ledger buffer is shorter than 224 bytes.
+-- The ledger buffer is shorter than the shortest ledger.
 abbrev pub ledgerShort : ℕ
 ledgerShort = 1
 
@@ -10,11 +10,11 @@ ledgerShort = 1
 abbrev pub capWrong : ℕ
 capWrong = 2
 
--- The ledger is shorter than 224 bytes, or its header breaks the layout, has more rows than capacity or has a cap that 2 refuses.
+-- The ledger is shorter than the shortest, or its header breaks the layout, has more rows than capacity or has a cap that 2 refuses.
 abbrev pub ledgerWrong : ℕ
 ledgerWrong = 3
 
--- The tape buffer is shorter than 146 bytes, even for PRTO.
+-- The tape buffer is shorter than a line, even for PRTO.
 abbrev pub tapeShort : ℕ
 tapeShort = 4
 

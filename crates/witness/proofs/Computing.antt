@@ -26,13 +26,13 @@ use Rattle.price.specs.Price.{dropZeros, trimZeros, shownWhole, shownDecimals, 
 use Rattle.terms.specs.Terms.{shownTruth, priceText, plusText, dateFields, truthFields, priceFields, notionalFields, termFields, termsOf}
 use Rattle.rules.specs.Findings.{lowest, firstBroken}
 use Rattle.rules.specs.Rules.{longPrice, priceTooLong, outOfOrder, rulesOf, rulesFor}
-use Rattle.ledger.specs.Header.{rowsInUse, firstRow, nextIdentifier, capsIn, sizeOfRows, capacityIn, capFor, areCaps, capacityFor, headerRight, headerFields, capFields, newHeader}
+use Rattle.ledger.specs.Header.{rowsInUse, firstRow, nextIdentifier, capsIn, sizeOfRows, capacityIn, capFor, areCaps, capacityFor, headerRight, headerOf, headerFields, capFields, newHeader}
 use Rattle.ledger.specs.Line.{lineFields, line}
-use Rattle.ledger.specs.Rows.{rowAt, statusOf, identifierOf, storedTerms, storedTime, holdsUti, placeIn, isKnown, swapStatus, swapIdentifier, rowFields, newRow, withStatus, withIdentifier, withTerms, withRows, withNext, headerAfter}
+use Rattle.ledger.specs.Rows.{rowAt, statusOf, identifierOf, storedTerms, storedTime, holdsUti, placeIn, isKnown, swapStatus, swapIdentifier, swapTime, rowFields, newRow, withStatus, withIdentifier, withTerms, withRows, withNext, headerAfter}
 use Rattle.submission.specs.Demand3.{lastTerms, maskedTermsAt}
 use Rattle.submission.specs.History.{publishes, lineOf, tape, judgements}
 use Rattle.submission.specs.Opening.{openingRules, openingVerdict, opened}
-use Rattle.submission.specs.Submission.{rowRight, hasWrongRow, isNotAdmitted, hasOtherTime, findsFull, findsSpent, swapRules, submissionRules, verdictOn, maskedTerms, termsFor, placeFor, rowFor, ledgerFor, lineFor, submitted}
+use Rattle.submission.specs.Submission.{rowRight, hasWrongRow, isNotAdmitted, hasOtherTime, findsFull, findsSpent, swapRules, submissionRules, verdictOn, capOn, maskedTerms, termsFor, placeFor, rowFor, ledgerFor, lineFor, submitted}
 use Rattle.witness.specs.Encoding.{entries, values, encoded}
 use Rattle.witness.specs.Messages.{packageSwap, newUnclearedSwap, inError, termination}
 use Rattle.witness.specs.Histories.{left, right}
@@ -60,11 +60,11 @@ unfolding lowest firstBroken longPrice priceTooLong outOfOrder rulesOf rulesFor
 judging = tt
 
 storing : Unit {0}
-unfolding rowsInUse firstRow nextIdentifier capsIn sizeOfRows capacityIn capFor areCaps capacityFor headerRight headerFields capFields newHeader lineFields line rowAt statusOf identifierOf storedTerms storedTime holdsUti placeIn isKnown swapStatus swapIdentifier rowFields newRow withStatus withIdentifier withTerms withRows withNext headerAfter
+unfolding rowsInUse firstRow nextIdentifier capsIn sizeOfRows capacityIn capFor areCaps capacityFor headerRight headerOf headerFields capFields newHeader lineFields line rowAt statusOf identifierOf storedTerms storedTime holdsUti placeIn isKnown swapStatus swapIdentifier swapTime rowFields newRow withStatus withIdentifier withTerms withRows withNext headerAfter
 storing = tt
 
 submitting : Unit {0}
-unfolding lastTerms maskedTermsAt publishes lineOf tape judgements openingRules openingVerdict opened rowRight hasWrongRow isNotAdmitted hasOtherTime findsFull findsSpent swapRules submissionRules verdictOn maskedTerms termsFor placeFor rowFor ledgerFor lineFor submitted
+unfolding lastTerms maskedTermsAt publishes lineOf tape judgements openingRules openingVerdict opened rowRight hasWrongRow isNotAdmitted hasOtherTime findsFull findsSpent swapRules submissionRules verdictOn capOn maskedTerms termsFor placeFor rowFor ledgerFor lineFor submitted
 submitting = tt
 
 history : Unit {0}

@@ -28,7 +28,7 @@ exact h i = amount (value notionalAmount (getD (map messageOf h) (getD fullPlace
 
 -- the tape buffer that is lent for a call
 abbrev pub bufferOf : Call → List ℕ
-bufferOf (submit m t) = t
+bufferOf (submit m b) = b .tape
 
 abbrev pub bufferSize : List Call → ℕ → ℕ
 bufferSize h i = length (getD (map bufferOf h) i [])

@@ -50,11 +50,11 @@ leftLedger = replicate (rowStart 2) 0
 -- the third message is refused: the swap is known
 unfoldable pub left : List Call
 left =
-    submit (newPackageSwap northRates "2026-03-02T14:30:05Z" "104999999") (replicate lineSize 0)
-    ∷ submit (extendedPackageSwap northRates "2026-03-03T09:00:01Z" "250400000") (replicate lineSize 1)
-    ∷ submit (newPackageSwap northRates "2026-03-03T09:30:00Z" "104999999") (replicate (lineSize + 1) 0)
-    ∷ submit (newUnclearedSwap northGrain "2026-03-03T10:16:00Z" "997.5") (replicate (lineSize + 4) 32)
-    ∷ submit (inError northRates "2026-03-04T08:00:00Z") (replicate lineSize 0)
+    submit (newPackageSwap northRates "2026-03-02T14:30:05Z" "104999999") (record { tape = replicate lineSize 0 })
+    ∷ submit (extendedPackageSwap northRates "2026-03-03T09:00:01Z" "250400000") (record { tape = replicate lineSize 1 })
+    ∷ submit (newPackageSwap northRates "2026-03-03T09:30:00Z" "104999999") (record { tape = replicate (lineSize + 1) 0 })
+    ∷ submit (newUnclearedSwap northGrain "2026-03-03T10:16:00Z" "997.5") (record { tape = replicate (lineSize + 4) 32 })
+    ∷ submit (inError northRates "2026-03-04T08:00:00Z") (record { tape = replicate lineSize 0 })
     ∷ []
 
 -- ---- the right history
@@ -90,9 +90,9 @@ rightLedger = replicate (rowStart 3 + 56) 255
 -- the third message is refused: the swap is not known yet
 unfoldable pub right : List Call
 right =
-    submit (newPackageSwap southRates "2026-03-02T23:59:59Z" "99500000.00001") (replicate (lineSize + 54) 255)
-    ∷ submit (extendedPackageSwap southRates "2026-03-03T12:00:00Z" "7000000000000000000") (replicate (lineSize + 3) 7)
-    ∷ submit (termination southGrain "2026-03-03T17:45:10Z") (replicate (lineSize + 854) 43)
-    ∷ submit (newUnclearedSwap southGrain "2026-03-03T18:00:00Z" "1049.99999") (replicate lineSize 10)
-    ∷ submit (inError southRates "2026-03-05T00:00:00Z") (replicate (lineSize + 14) 9)
+    submit (newPackageSwap southRates "2026-03-02T23:59:59Z" "99500000.00001") (record { tape = replicate (lineSize + 54) 255 })
+    ∷ submit (extendedPackageSwap southRates "2026-03-03T12:00:00Z" "7000000000000000000") (record { tape = replicate (lineSize + 3) 7 })
+    ∷ submit (termination southGrain "2026-03-03T17:45:10Z") (record { tape = replicate (lineSize + 854) 43 })
+    ∷ submit (newUnclearedSwap southGrain "2026-03-03T18:00:00Z" "1049.99999") (record { tape = replicate lineSize 10 })
+    ∷ submit (inError southRates "2026-03-05T00:00:00Z") (record { tape = replicate (lineSize + 14) 9 })
     ∷ []

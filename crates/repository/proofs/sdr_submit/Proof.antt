@@ -30,12 +30,12 @@ demands =
     }
 
 pack-requires : tie.Need-pack-requires
-pack-requires c κs = carried _ _ (c .before .before .before .before .submit .ensures .0) (submission-small documentLimits _ _ _ (lit< tt))
+pack-requires c κs = carried _ _ (c .before .before .before .before .submit .ensures .0) (submission-small documentLimits _ _ (lit< tt))
 
 returns : tie.Need-returns
 returns c =
     let s = c .before .before .before .before .before .submit .ensures in
-    (c .pack .ensures .1 ∙ s .0, (s .1 .0, (s .1 .1, demands)))
+    (c .pack .ensures .1 ∙ s .0, (s .1, demands))
 
 pub sdr-submit-spec : {M : Type 1} → statement M
 sdr-submit-spec = tie.close (tie.spec (λ c κs. search needs) pack-requires (λ c. search needs) (λ c. search needs) returns)

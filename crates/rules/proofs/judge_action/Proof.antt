@@ -4,7 +4,7 @@ use denote.Ref.{now}
 use Rattle.actions.specs.Actions.{actionOf}
 use Rattle.rules.specs.Verdicts.{noAction}
 use Rattle.rules.specs.Findings.{firstBroken, fromRule}
-use Rattle.rules.specs.Rules.{actionIn, rulesOf, judgedFrom, refusedBy}
+use Rattle.rules.specs.Rules.{actionIn, rulesOf, judgedFrom, judgedBy}
 use borrow.Author.Needs.{needs}
 use Rattle.rules.proofs.judge_action.Statement.{statement}
 use Rattle.rules.proofs.judge_action.Tie as tie
@@ -16,7 +16,7 @@ returns : tie.Need-returns
 unfolding judgedFrom fromRule firstBroken
 returns c =
     let told = c .before .enum-told .given .1 in
-    rw (read (c .before .before .before) ∙ told) (c .refused-by .ensures ∙ ap (refusedBy noAction) told)
+    rw (read (c .before .before .before) ∙ told) (c .judged-by .ensures ∙ ap (judgedBy noAction) told)
 
 returns-2 : tie.Need-returns-2
 unfolding judgedFrom rulesOf fromRule firstBroken

@@ -11,7 +11,7 @@ use Rattle.rules.proofs.judge_due.Tie as tie
 
 returns : tie.Need-returns
 unfolding rulesOf findingOf
-returns c = c .refused-by .ensures ∙ check-stops dueMissing _ _ refl (c .before .before .before .lowest-fault .ensures) (c .before .enum-told .given .1)
+returns c = c .judged-by .ensures ∙ check-stops dueMissing _ _ refl (c .before .before .before .lowest-fault .ensures) (c .before .enum-told .given .1)
 
 returns-2 : tie.Need-returns-2
 unfolding rulesOf findingOf fromRule afterRule

@@ -10,6 +10,7 @@ use denote.Ref.{now}
 use Rattle.octets.specs.Part.{part, splice}
 use Rattle.octets.proofs.PartLaws.{splice-none}
 use Rattle.submission.specs.Opening.{documentLimits}
+use Rattle.submission.specs.Lent.{lentOf}
 use Rattle.submission.specs.Submission.{Submitted, submitted, refused}
 use Rattle.rules.specs.Verdicts.{layoutWrong}
 use Rattle.repository.specs.Answers.{submissionAnswer}
@@ -70,21 +71,18 @@ returns c =
     let f = n .before .before in
     let a = start f .args in
     let size = n .n .given .0 .0 in
-    let judged : List ℕ → Submitted = λ x. submitted documentLimits (now (a .ledger)) (now (a .tape)) x in
+    let judged : List ℕ → Submitted = λ x. submitted documentLimits (lentOf (now (a .ledger)) (now (a .tape))) x in
     let sent : now (m .part-of .result) ≡ part (rest f) lengthSize size =
     m .part-of .ensures .0 ∙ ap (λ (xs : List ℕ). part xs lengthSize size) (all-lent (now (a .input)) (a .p .at)) in
-    let told : stepAt (now (a .ledger)) (now (a .tape)) (now (a .input)) (a .p) ≡ answered (dayOf (now (a .ledger)) (now (a .tape)) (a .p)) size (judged (part (rest f) lengthSize size)) =
+    let told : stepAt (lentOf (now (a .ledger)) (now (a .tape))) (now (a .input)) (a .p) ≡ answered (dayOf (lentOf (now (a .ledger)) (now (a .tape))) (a .p)) size (judged (part (rest f) lengthSize size)) =
     step-on _ (rest f) (Message size) (sym (front f) ∙ n .n .given .1) in
     let same : k .submit .result ≡ submissionAnswer (judged (part (rest f) lengthSize size)) = k .submit .ensures .0 ∙ ap (λ (x : List ℕ). submissionAnswer (judged x)) sent in (
-      r .report .ensures .0 ∙ told-progress _ _ (rest f) (a .p) size _ told _ same,
+      r .report .ensures .0 ∙ told-progress _ (rest f) (a .p) size _ told _ same,
       (
-        r .report .ensures .1 .0 ∙ ap (splice (now (a .out)) (a .p .used)) (told-line _ _ (rest f) (a .p) size _ told _ same),
+        r .report .ensures .1 .0 ∙ ap (splice (now (a .out)) (a .p .used)) (told-line _ (rest f) (a .p) size _ told _ same),
         (
-          k .submit .ensures .1 .0 ∙ ap (λ (x : List ℕ). judged x .ledger) sent ∙ ap (λ (x : Step). x .after .ledger) (sym told),
-          (
-            k .submit .ensures .1 .1 ∙ ap (λ (x : List ℕ). judged x .tape) sent ∙ ap (λ (x : Step). x .after .tape) (sym told),
-            (one-further _ (lengthSize + size) (a .p) _ (message-fits n) (omega arith) (start f .pre .1 .1 .1) (r .report .ensures .1 .1), judged-at-once),
-          ),
+          k .submit .ensures .1 ∙ ap (λ (x : List ℕ). judged x .lent) sent ∙ ap (λ (x : Step). x .after .lent) (sym told),
+          (one-further _ (lengthSize + size) (a .p) _ (message-fits n) (omega arith) (start f .pre .1 .1 .1) (r .report .ensures .1 .1), judged-at-once),
         ),
       ),
     )
@@ -97,17 +95,14 @@ returns-2 c =
     let f = n .before .before in
     let a = start f .args in
     let size = n .n2 .given .0 .0 in
-    let told : stepAt (now (a .ledger)) (now (a .tape)) (now (a .input)) (a .p) ≡ answered (dayOf (now (a .ledger)) (now (a .tape)) (a .p)) size (refused (layoutWrong, 0) (now (a .ledger)) (now (a .tape))) =
+    let told : stepAt (lentOf (now (a .ledger)) (now (a .tape))) (now (a .input)) (a .p) ≡ answered (dayOf (lentOf (now (a .ledger)) (now (a .tape))) (a .p)) size (refused (layoutWrong, 0) (lentOf (now (a .ledger)) (now (a .tape)))) =
     step-on _ (rest f) (Overlong size) (sym (front f) ∙ n .n2 .given .1) in (
-      r .report2 .ensures .0 ∙ told-progress _ _ (rest f) (a .p) size _ told _ (k .refusal .ensures),
+      r .report2 .ensures .0 ∙ told-progress _ (rest f) (a .p) size _ told _ (k .refusal .ensures),
       (
-        r .report2 .ensures .1 .0 ∙ ap (splice (now (a .out)) (a .p .used)) (told-line _ _ (rest f) (a .p) size _ told _ (k .refusal .ensures)),
+        r .report2 .ensures .1 .0 ∙ ap (splice (now (a .out)) (a .p .used)) (told-line _ (rest f) (a .p) size _ told _ (k .refusal .ensures)),
         (
-          ap (λ (x : Step). x .after .ledger) (sym told),
-          (
-            ap (λ (x : Step). x .after .tape) (sym told),
-            (one-further _ (lengthSize + size) (a .p) _ (overlong-fits n) (omega arith) (start f .pre .1 .1 .1) (r .report2 .ensures .1 .1), judged-at-once),
-          ),
+          ap (λ (x : Step). x .after .lent) (sym told),
+          (one-further _ (lengthSize + size) (a .p) _ (overlong-fits n) (omega arith) (start f .pre .1 .1 .1) (r .report2 .ensures .1 .1), judged-at-once),
         ),
       ),
     )
@@ -116,18 +111,15 @@ returns-3 : tie.Need-returns-3
 returns-3 c =
     let f = c .before .before in
     let a = start f .args in
-    let told : stepAt (now (a .ledger)) (now (a .tape)) (now (a .input)) (a .p) ≡ stepOn (dayOf (now (a .ledger)) (now (a .tape)) (a .p)) (rest f) Partial =
+    let told : stepAt (lentOf (now (a .ledger)) (now (a .tape))) (now (a .input)) (a .p) ≡ stepOn (dayOf (lentOf (now (a .ledger)) (now (a .tape))) (a .p)) (rest f) Partial =
     step-on _ (rest f) Partial (sym (front f) ∙ c .enum-told .given .1) in
     let short : length (rest f) < longestFrame = subst (Fits (rest f)) (c .enum-told .given .1) (fits f) in (
-      unmoved (now (a .ledger)) (now (a .tape)) (rest f) (a .p) ∙ ap (progressAfter (a .p)) (sym told),
+      unmoved (lentOf (now (a .ledger)) (now (a .tape))) (rest f) (a .p) ∙ ap (progressAfter (a .p)) (sym told),
       (
         sym (splice-none (now (a .out)) (a .p .used)) ∙ ap (λ (x : Step). splice (now (a .out)) (a .p .used) (x .line)) (sym told),
         (
-          ap (λ (x : Step). x .after .ledger) (sym told),
-          (
-            ap (λ (x : Step). x .after .tape) (sym told),
-            (no-further _ (a .p) (search needs) (search needs) (search needs) (omega (arith, short, length-drop (a .p .at) (now (a .input)))), judged-at-once),
-          ),
+          ap (λ (x : Step). x .after .lent) (sym told),
+          (no-further _ (a .p) (search needs) (search needs) (search needs) (omega (arith, short, length-drop (a .p .at) (now (a .input)))), judged-at-once),
         ),
       ),
     )

@@ -7,6 +7,7 @@ use lib.ListN.{length}
 use borrow.Author.Needs.{needs}
 use borrow.Author.Tests.{ltb-false, leb-false}
 use Rattle.dayrun.specs.declared.judging.Progress.{Progress}
+use Rattle.submission.specs.Lent.{lentOf}
 use Rattle.dayrun.specs.Day.{mostMessages}
 use Rattle.dayrun.specs.Progress.{writeSize, Reached, Within}
 use Rattle.dayrun.proofs.ProgressLaws.{written-within, reached-start, none-left, reached-none, reached-more}
@@ -15,13 +16,13 @@ use Rattle.dayrun.proofs.run.judge_block.Tie as tie
 
 abbrev Inv-loop : tie.InvT-loop
 Inv-loop ledger₀ tape₀ input out₀ p₀ ledger tape out p =
-    (length ledger ≡ length ledger₀) × (length tape ≡ length tape₀) × (length out ≡ length out₀) × Within (length input) writeSize p × Reached ledger₀ tape₀ input p₀ ledger tape p
+    (length ledger ≡ length ledger₀) × (length tape ≡ length tape₀) × (length out ≡ length out₀) × Within (length input) writeSize p × Reached (lentOf ledger₀ tape₀) input p₀ (lentOf ledger tape) p
 
 abbrev μ-loop : tie.MeasureT-loop
 μ-loop ledger₀ tape₀ input out₀ p₀ ledger tape out p = mostMessages - p .judged
 
 loop-holds : tie.Need-loop-holds Inv-loop μ-loop
-loop-holds c = (refl, refl, refl, c .before .before .before .before .pre .0, reached-start _ _ _ _)
+loop-holds c = (refl, refl, refl, c .before .before .before .before .pre .0, reached-start _ _ _)
 
 judge-next-requires : tie.Need-judge-next-requires Inv-loop μ-loop
 judge-next-requires c κs =
@@ -33,23 +34,23 @@ returns c =
     let j = c .before .before .before .before .before .before .before .before in
     let l = j .before .before .before .before .before .before .before .loop in
     let told = j .judge-next .ensures in
-    let s = told .1 .1 .1 .1 .0 in
+    let s = told .1 .1 .1 .0 in
     let stays = s .stays (c .if2 .taken) in (
-      reached-none _ _ _ _ _ _ _ _ (l .p) _ (l .inv .4) (told .0) (told .1 .1 .0) (told .1 .1 .1 .0) (c .if2 .taken),
+      reached-none (l .inv .4) (told .0) (told .1 .1 .0) (c .if2 .taken),
       (
         record { passed = s .within .passed; waiting = omega (arith, stays .1, l .inv .3 .waiting); lines = s .within .lines; messages = s .within .messages },
-        λ _ _. (none-left _ _ _ _ _ _ _ _ (l .p) _ (l .inv .4) (told .0) (told .1 .1 .0) (told .1 .1 .1 .0) (c .if2 .taken), omega (arith, stays .0, c .if2 .taken)),
+        λ _ _. (none-left (l .inv .4) (told .0) (told .1 .1 .0) (c .if2 .taken), omega (arith, stays .0, c .if2 .taken)),
       ),
     )
 
 -- the message before a turn's end was whole
 forward : (c : tie.Else2 Inv-loop μ-loop) → c .before .before .before .before .before .before .before .before .before .before .before .before .before .before .before .loop .p .at < c .before .before .before .before .before .before .before .before .judge-next .result .at
-forward c = omega (arith, c .before .before .before .before .before .before .before .before .judge-next .ensures .1 .1 .1 .1 .0 .forward, c .if2 .left)
+forward c = omega (arith, c .before .before .before .before .before .before .before .before .judge-next .ensures .1 .1 .1 .0 .forward, c .if2 .left)
 
 loop-less : tie.Need-loop-less Inv-loop μ-loop
 loop-less c =
     let e = c .before .before in
-    let s = e .before .before .before .before .before .before .before .before .judge-next .ensures .1 .1 .1 .1 .0 in
+    let s = e .before .before .before .before .before .before .before .before .judge-next .ensures .1 .1 .1 .0 in
     omega (arith, ap (λ (x : Progress). x .judged) (c .write-enough .ensures), s .within .messages, s .counts (forward e))
 
 loop-again : tie.Need-loop-again Inv-loop μ-loop
@@ -61,8 +62,8 @@ loop-again c =
       omega (arith, l .inv .0, e .before .before .before .before .before .before .before .ledger .given),
       omega (arith, l .inv .1, e .before .before .before .before .before .tape .given),
       omega (arith, l .inv .2, e .before .before .before .out .given),
-      written-within _ _ _ _ _ _ w (leb-false _ _) (told .1 .1 .1 .1 .0 .within),
-      reached-more _ _ _ _ _ _ _ _ (l .p) _ (l .inv .4) (told .0) (told .1 .1 .0) (told .1 .1 .1 .0) _ (forward e) (ap (λ (x : Progress). x .at) w) (ap (λ (x : Progress). x .judged) w) (ap (λ (x : Progress). x .published) w),
+      written-within _ _ _ _ _ _ w (leb-false _ _) (told .1 .1 .1 .0 .within),
+      reached-more (l .inv .4) (told .0) (told .1 .1 .0) _ (forward e) (ap (λ (x : Progress). x .at) w) (ap (λ (x : Progress). x .judged) w) (ap (λ (x : Progress). x .published) w),
     )
 
 returns-2 : tie.Need-returns-2 Inv-loop μ-loop

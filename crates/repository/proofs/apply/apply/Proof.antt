@@ -1,10 +1,11 @@
 -- `repository::apply::apply` meets its contract. Assumes nothing.
-use mathlib.Core.Path.{_≡_, refl, ap, _∙_}
+use mathlib.Core.Path.{_≡_, refl, ap, ap₂, _∙_}
 use lib.ListN.{length}
 use denote.Ref.{now}
 use Rattle.terms.specs.Terms.{termsSize}
 use Rattle.ledger.specs.Rows.{rowsAfter, headerAfter}
 use Rattle.ledger.specs.Line.{line}
+use Rattle.submission.specs.Lent.{lentOf}
 use Rattle.submission.specs.Submission.{swapOf, termsFor, tapeAfter}
 use Rattle.repository.proofs.AcceptanceLaws.{uti-fits, terms-are, line-is, ledger-is}
 use borrow.Author.Needs.{needs}
@@ -16,12 +17,12 @@ start c = c .before .before .before .before .before .before
 
 -- the terms that were collected
 terms : (c : tie.After-collect-terms) → c .collect-terms .last .0 ≡ termsFor (start c .args .acceptance .action) (now (start c .args .l)) (now (start c .args .m))
-terms c = c .collect-terms .ensures ∙ terms-are _ _ _ (start c .args .acceptance) (start c .pre)
+terms c = c .collect-terms .ensures ∙ terms-are (start c .pre)
 
 collect-terms-requires : tie.Need-collect-terms-requires
 collect-terms-requires c κs =
     let f = c .before .before .before .before .before .pre in
-    (refl, f .row, f .caps)
+    (refl, f .row, f .cap)
 
 -- from each later call
 abbrev t1 : tie.After-publish → tie.After-collect-terms
@@ -59,8 +60,9 @@ returns c =
     ∙ ap (λ u. rowsAfter (acceptance .action) (acceptance .status) u (acceptance .next) (k .collect-terms .last .0) (acceptance .place) l) (r .before .before .element .ensures .0)
     ∙ ap (λ t. rowsAfter (acceptance .action) (acceptance .status) (swapOf m) (acceptance .next) t (acceptance .place) l) (terms k) in
     let line = p .publish .ensures ∙ ap (λ t. tapeAfter (acceptance .action) (line (acceptance .action) (acceptance .next) (acceptance .previous) m t) (now (a .tape))) (terms k)
-    ∙ ap (λ x. tapeAfter (acceptance .action) x (now (a .tape))) (line-is _ _ _ acceptance (s .pre)) in
-    (h .update-header .ensures ∙ ap (headerAfter (acceptance .action) (acceptance .rows) (acceptance .next)) row ∙ ledger-is _ _ _ acceptance (s .pre), line)
+    ∙ ap (λ x. tapeAfter (acceptance .action) x (now (a .tape))) (line-is (s .pre)) in
+    let ledger = h .update-header .ensures ∙ ap (headerAfter (acceptance .action) (acceptance .rows) (acceptance .next)) row ∙ ledger-is (s .pre) in
+    ap₂ lentOf ledger line
 
 pub apply-spec : {M : Type 1} → statement M
 apply-spec =

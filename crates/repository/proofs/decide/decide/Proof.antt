@@ -28,11 +28,11 @@ returns : tie.Need-returns
 unfolding submissionRules findingOf
 returns c =
     let wrong = header-told _ _ check.Fault (sym (c .before .before .read-header .ensures) ∙ c .enum-told .given .1) in
-    test-stops ledgerWrong _ _ _ _ refl (ap (λ b. brokenIf (not b)) wrong) ∙ from-first _ _ _ _
+    test-stops ledgerWrong _ _ _ refl (ap (λ b. brokenIf (not b)) wrong) ∙ from-first _ _ _
 
 returns-2 : tie.Need-returns-2
 unfolding submissionRules decisionFrom fromRule firstBroken
-returns-2 c = rw (known (c .before) .0) (c .decide-tape .ensures (s1 (c .before) .args .largest)) ∙ from-first _ _ _ _
+returns-2 c = rw (known (c .before) .0) (c .decide-tape .ensures (s1 (c .before) .args .largest)) ∙ from-first _ _ _
 
 pub decide-spec : {M : Type 1} → statement M
 decide-spec =

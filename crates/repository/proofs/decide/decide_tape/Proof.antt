@@ -17,11 +17,11 @@ start c = c .before .before .before .before
 
 returns : tie.Need-returns
 unfolding submissionRules findingOf
-returns c largest = test-stops tapeShort _ _ _ _ refl (ap brokenIf (lt-ltb _ _ (c .if1 .taken)))
+returns c largest = test-stops tapeShort _ _ _ refl (ap brokenIf (lt-ltb _ _ (c .if1 .taken)))
 
 returns-2 : tie.Need-returns-2
 unfolding decisionFrom submissionRules rulesFor fromRule firstBroken
-returns-2 c largest = rw (le-ltb _ _ (c .before .if1 .left)) (c .decide-message .ensures largest (now (start (c .before) .args .tape)))
+returns-2 c largest = rw (le-ltb _ _ (c .before .if1 .left)) (c .decide-message .ensures largest (record { tape = now (start (c .before) .args .tape) }))
 
 pub decide-tape-spec : {M : Type 1} → statement M
 decide-tape-spec = tie.close (tie.spec returns (λ c κs. search needs) returns-2)

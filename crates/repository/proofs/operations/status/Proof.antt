@@ -8,11 +8,13 @@ use Rattle.elements.specs.Forms.{hasForm}
 use Rattle.rules.specs.Findings.{firstBroken}
 use Rattle.ledger.specs.declared.header.Header.{Header}
 use Rattle.ledger.specs.declared.header.HeaderCheck.the-variants as check
-use Rattle.ledger.specs.Header.{headerRight, headerOf}
+use Rattle.ledger.specs.Header.{nextIdentifier, headerRight, headerOf}
+use Rattle.ledger.specs.Rows.{swapIn}
 use Rattle.ledger.proofs.RightHeader.{header-told, used-fit}
 use Rattle.submission.specs.Status.{statusRules, asked}
-use Rattle.repository.specs.declared.swap.SwapCheck.the-variants as found
-use Rattle.repository.proofs.SwapLaws.{swap-told}
+use Rattle.submission.specs.Submission.{hasWrongRow}
+use Rattle.repository.specs.Decision.{HeaderRead}
+use Rattle.repository.proofs.DecisionLaws.{rows-read, wrong-read}
 use borrow.Author.Needs.{needs}
 use Rattle.repository.proofs.operations.status.Statement.{statement}
 use Rattle.repository.proofs.operations.status.Tie as tie
@@ -42,21 +44,26 @@ returns-2 c longest =
     let h = c .before .before in
     c .refusal2 .ensures ∙ rw (right (h .before) .0, sym (h .has-form .ensures) ∙ not-true _ (c .before .if1 .taken))
 
-find-swap-requires : tie.Need-find-swap-requires
-find-swap-requires c κs = (right (k1 c) .1, used-fit _ _ (header (k1 c)) (right (k1 c) .0) (right (k1 c) .1))
+read : (c : tie.Else1) → HeaderRead (header (k1 c)) (now (s1 (k1 c) .args .l))
+read c = (right (k1 c) .1, used-fit _ _ (header (k1 c)) (right (k1 c) .0) (right (k1 c) .1))
+
+-- rule 14 on what was looked up
+wrong : (c : tie.After-has-wrong-row) → hasWrongRow (nextIdentifier (now (s1 (k1 (c .before .before)) .args .l))) (swapIn (now (s1 (k1 (c .before .before)) .args .l)) (now (s1 (k1 (c .before .before)) .args .uti))) ≡ c .has-wrong-row .result
+wrong c = wrong-read _ _ _ _ _ (right (k1 (c .before .before)) .1) (c .before .find-swap .ensures) (c .has-wrong-row .ensures)
 
 returns-3 : tie.Need-returns-3
 unfolding asked statusRules firstBroken
 returns-3 c longest =
-    let f = c .before .before .before in
-    c .refusal3 .ensures ∙ rw (right (k1 (f .before)) .0, formed (f .before), swap-told _ _ found.Fault (sym (f .find-swap .ensures) ∙ c .before .enum-told2 .given .1))
+    let w = c .before .before in
+    let e = w .before .before in
+    c .refusal3 .ensures ∙ rw (right (k1 e) .0, formed e, wrong w ∙ c .before .if2 .taken)
 
 returns-4 : tie.Need-returns-4
 unfolding asked statusRules firstBroken
 returns-4 c longest =
-    let f = c .before .before .before in
-    let known = swap-told _ _ (found.Value (c .before .swap .given .0 .0)) (sym (f .find-swap .ensures) ∙ c .before .swap .given .1) in
-    rw (known .1, right (k1 (f .before)) .0, formed (f .before), known .0)
+    let w = c .before in
+    let e = w .before .before in
+    rw (w .before .find-swap .ensures, right (k1 e) .0, formed e, wrong w ∙ c .if2 .left)
 
 pub status-spec : {M : Type 1} → statement M
 status-spec =
@@ -71,9 +78,8 @@ status-spec =
     (λ c. search needs)
     (λ c κs. search needs)
     returns-2
-    find-swap-requires
-    (λ c. search needs)
-    (λ c. search needs)
+    (λ c κs. let r = rows-read _ _ (read c) in (r .0, read c .1))
+    (λ c κs. search needs)
     (λ c κs. search needs)
     returns-3
     returns-4)

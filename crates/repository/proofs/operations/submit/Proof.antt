@@ -1,10 +1,13 @@
 -- `repository::operations::submit` meets its contract. Assumes nothing.
-use mathlib.Core.Path.{sym, ap, _∙_}
+use mathlib.Core.Path.{_≡_, sym, ap, _∙_}
 use denote.Ref.{now}
 use Rattle.submission.specs.Opening.{Limits}
-use Rattle.repository.specs.Answers.{limitsOf}
+use Rattle.submission.specs.Lent.{Lent, lentOf}
+use Rattle.submission.specs.Submission.{submitted}
+use Rattle.repository.specs.declared.decide.Decision.{Decision}
+use Rattle.repository.specs.Answers.{limitsOf, submissionAnswer}
 use Rattle.repository.specs.Decision.{decisionAnswer}
-use Rattle.repository.proofs.AcceptanceLaws.{decision-answers, decision-writes, fitting}
+use Rattle.repository.proofs.AcceptanceLaws.{Leaves, decision-answers, decision-writes, fitting}
 use borrow.Author.Needs.{needs}
 use Rattle.repository.proofs.operations.submit.Statement.{statement}
 use Rattle.repository.proofs.operations.submit.Tie as tie
@@ -15,27 +18,32 @@ start c = c .before .before .before .before .before .before
 abbrev limits : tie.After-decide → Limits
 limits c = limitsOf (start c .args .longest) (start c .args .largest)
 
+abbrev lent : tie.After-decide → Lent
+lent c = lentOf (now (start c .args .l)) (now (start c .args .tape))
+
+answers : (c : tie.After-decide) → decisionAnswer (c .decide .result) ≡ submissionAnswer (submitted (limits c) (lent c) (now (start c .args .m)))
+answers c = ap decisionAnswer (c .decide .ensures) ∙ decision-answers (limits c) (lent c) (now (start c .args .m))
+
+leaves : (c : tie.After-decide) (d : Decision) → c .decide .result ≡ d → Leaves d (lent c) (now (start c .args .m)) (submitted (limits c) (lent c) (now (start c .args .m)))
+leaves c d e = decision-writes (limits c) (lent c) (now (start c .args .m)) d (sym (c .decide .ensures) ∙ e)
+
 returns : tie.Need-returns
 returns c =
     let d = c .before .before .before in
-    let a = start d .args in
-    let left = decision-writes (limits d) (now (a .l)) (now (a .tape)) (now (a .m)) _ (sym (d .decide .ensures) ∙ c .before .enum-told .given .1) in
-    (c .answer-of .ensures ∙ ap decisionAnswer (d .decide .ensures) ∙ decision-answers (limits d) (now (a .l)) (now (a .tape)) (now (a .m)), (sym (left .0), sym (left .1)))
+    (c .answer-of .ensures ∙ answers d, sym (leaves d _ (c .before .enum-told .given .1)))
 
 apply-requires : tie.Need-apply-requires
 apply-requires c κs =
     let k = c .before .before in
     let d = k .before .before .before in
-    fitting (limits d) _ _ _ _ (search needs) (sym (d .decide .ensures) ∙ k .before .decision .given .1)
+    fitting (limits d) (lent d) (now (start d .args .m)) _ (search needs) (sym (d .decide .ensures) ∙ k .before .decision .given .1)
 
 returns-2 : tie.Need-returns-2
 returns-2 c =
     let p = c .before .before .before .before .before in
     let k = p .before .before .before in
     let d = k .before .before .before in
-    let a = start d .args in
-    let left = decision-writes (limits d) (now (a .l)) (now (a .tape)) (now (a .m)) _ (sym (d .decide .ensures) ∙ k .before .decision .given .1) in
-    (c .answer-of2 .ensures ∙ ap decisionAnswer (sym (k .before .decision .given .1) ∙ d .decide .ensures) ∙ decision-answers (limits d) (now (a .l)) (now (a .tape)) (now (a .m)), (p .apply .ensures .0 ∙ sym (left .0), p .apply .ensures .1 ∙ sym (left .1)))
+    (c .answer-of2 .ensures ∙ ap decisionAnswer (sym (k .before .decision .given .1)) ∙ answers d, p .apply .ensures ∙ sym (leaves d _ (k .before .decision .given .1)))
 
 pub submit-spec : {M : Type 1} → statement M
 submit-spec =
