@@ -1,26 +1,22 @@
--- Document 01, 'Elements' and 'The tape line': the seven actions.
-use Prim.Native.Nat.{ℕ}
+-- What the table of actions says: how an action is read, the kinds of actions, and the steps of a swap's status.
+use Prim.Native.Nat.{ℕ, _<_}
 use Prim.Native.String.{String}
 use mathlib.Core.Bool.{Bool, true, false}
-use mathlib.Core.List.{List, [], _∷_}
+use mathlib.Core.Path.{_≡_}
+use mathlib.Core.List.{List, [], _∷_, map}
+use lib.ListN.{length}
+use lib.Dec.{eqb}
+use Rattle.octets.specs.Bytes.{Bytes}
+use Rattle.octets.specs.Choice.{choose}
 use Rattle.octets.specs.Same.{beside}
 use Rattle.actions.specs.declared.Action.{Action}
-use Rattle.actions.specs.declared.Action.the-variants.{Newt, Modi, Corr, Term, Eror, Revi, Prto}
+use Rattle.actions.specs.declared.table.Kind.{Kind}
+use Rattle.actions.specs.declared.table.Kind.the-variants.{Full, Short}
 use Rattle.actions.specs.declared.Checked.{Checked}
 use Rattle.actions.specs.declared.Checked.the-variants.{Fault, Value}
-
--- the actions, in the order of the tables, and each one's row
-abbrev pub allActions : List Action
-allActions = Newt ∷ Modi ∷ Corr ∷ Term ∷ Eror ∷ Revi ∷ Prto ∷ []
-
-abbrev pub rowOf : Action → ℕ
-rowOf Newt = 0
-rowOf Modi = 1
-rowOf Corr = 2
-rowOf Term = 3
-rowOf Eror = 4
-rowOf Revi = 5
-rowOf Prto = 6
+use Rattle.actions.specs.declared.table.Columns.{Columns}
+use Rattle.actions.specs.Statuses.{noStep, statuses}
+use Rattle.actions.specs.Table.{rowOf, allActions, actionAt}
 
 -- the element that holds the action
 abbrev pub actionCode : ℕ
@@ -28,46 +24,47 @@ actionCode = 2
 
 -- codes are matched byte for byte; TERM is not term
 abbrev pub actionCodes : List (String × Checked)
-actionCodes =
-    ("NEWT", Value Newt)
-    ∷ ("MODI", Value Modi)
-    ∷ ("CORR", Value Corr)
-    ∷ ("TERM", Value Term)
-    ∷ ("EROR", Value Eror)
-    ∷ ("REVI", Value Revi)
-    ∷ ("PRTO", Value Prto)
-    ∷ []
+actionCodes = map (λ a. (rowOf a .text, Value a)) allActions
 
 -- what the value of the element says: one of the seven, or the element is at fault
-unfoldable pub actionOf : List ℕ → Checked
+unfoldable pub actionOf : Bytes → Checked
 actionOf v = beside actionCodes (Fault actionCode) v
 
 -- "full" means messages whose action is NEWT, MODI, CORR or REVI
+abbrev pub isFullKind : Kind → Bool
+isFullKind Full = true
+isFullKind Short = false
+
 abbrev pub isFull : Action → Bool
-isFull Newt = true
-isFull Modi = true
-isFull Corr = true
-isFull Term = false
-isFull Eror = false
-isFull Revi = true
-isFull Prto = false
+isFull a = isFullKind (rowOf a .kind)
 
--- every accepted message but PRTO writes a line
+-- an accepted message of the action writes a line
 abbrev pub writesLine : Action → Bool
-writesLine Newt = true
-writesLine Modi = true
-writesLine Corr = true
-writesLine Term = true
-writesLine Eror = true
-writesLine Revi = true
-writesLine Prto = false
+writesLine a = rowOf a .line
 
--- NEWT is a new swap's; any other action is for a swap that has a row
+-- the action is a new swap's; any other is for a swap that has a row
 abbrev pub isNew : Action → Bool
-isNew Newt = true
-isNew Modi = false
-isNew Corr = false
-isNew Term = false
-isNew Eror = false
-isNew Revi = false
-isNew Prto = false
+isNew a = rowOf a .new
+
+-- a message of the action repeats the stored execution timestamp
+abbrev pub repeatsTime : Action → Bool
+repeatsTime a = rowOf a .repeats
+
+-- the status after the step from s, where there is one
+abbrev pub stepFrom : List (ℕ × ℕ) → ℕ → ℕ
+stepFrom [] s = noStep
+stepFrom (step ∷ steps) s = choose (eqb s (step .0)) (step .1) (stepFrom steps s)
+
+abbrev pub nextStatus : Action → ℕ → ℕ
+nextStatus a s = stepFrom (rowOf a .steps) s
+
+-- the columns that the code has by action are those of its row
+abbrev pub IsRow : Action → Columns → Type 0
+IsRow a c =
+    (c .place < length allActions)
+    × (actionAt (c .place) ≡ a)
+    × (c .kind ≡ rowOf a .kind)
+    × (c .new ≡ rowOf a .new)
+    × (c .line ≡ rowOf a .line)
+    × (c .repeats ≡ rowOf a .repeats)
+    × (c .steps ≡ map (nextStatus a) statuses)

@@ -1,3 +1,4 @@
+pub mod Statuses
+pub mod Table
 pub mod Actions
 pub mod Matrix
-pub mod Statuses

@@ -1,39 +1,23 @@
 -- Document 01, 'Elements', and document 000, Appendix F: which events go with which action (verdict 10).
 use Prim.Native.Nat.{ℕ}
 use Prim.Native.Char.{code}
-use Prim.Native.String.{String}
 use mathlib.Core.Bool.{Bool}
-use mathlib.Core.List.{List, [], _∷_}
 use lib.ListN.{length, getD}
 use lib.Dec.{eqb}
+use Rattle.octets.specs.Bytes.{Bytes}
 use Rattle.octets.specs.Choice.{choose, both}
 use Rattle.octets.specs.Text.{text}
 use Rattle.octets.specs.Same.{place, oneOf}
 use Rattle.actions.specs.declared.Action.{Action}
-use Rattle.actions.specs.Actions.{rowOf}
+use Rattle.actions.specs.Table.{events, rowOf}
 
--- the columns of the matrix; the last one is that of no event
-abbrev pub events : List String
-events = "TRAD" ∷ "NOVA" ∷ "COMP" ∷ "ETRM" ∷ "CLRG" ∷ "EXER" ∷ "ALOC" ∷ "CLAL" ∷ "CREV" ∷ "PTNG" ∷ "CORP" ∷ "UPDT" ∷ []
-
+-- the column of no event
 abbrev pub noEvent : ℕ
 noEvent = length events
 
--- a row for each action; Y where Appendix F has a tick
-abbrev pub matrix : List String
-matrix =
-    "YYY-YYYY-YYY-"  -- NEWT
-    ∷ "YYY--YY-Y-YY-"  -- MODI
-    ∷ "------------Y"  -- CORR
-    ∷ "-YYYYYYYY-Y--"  -- TERM
-    ∷ "------------Y"  -- EROR
-    ∷ "------------Y"  -- REVI
-    ∷ "---------Y---"  -- PRTO
-    ∷ []
-
 unfoldable pub tick : Action → ℕ → Bool
-tick a column = eqb (getD (text (getD matrix (rowOf a) "")) column 0) (code "Y")
+tick a column = eqb (getD (text (rowOf a .events)) column 0) (code "Y")
 
 -- the action and the event, or its absence, are a pair of the matrix
-unfoldable pub pairAllowed : Action → List ℕ → Bool
+unfoldable pub pairAllowed : Action → Bytes → Bool
 pairAllowed a event = choose (eqb (length event) 0) (tick a noEvent) (both (oneOf events event) (tick a (place events event)))

@@ -3,11 +3,12 @@ use Prim.Native.Nat.{ℕ, _+_, _-_, _*_, _<_, _≤_}
 use Prim.Native.Char.{code}
 use mathlib.Core.Bool.{Bool, true, false, false≢true}
 use mathlib.Core.Path.{_≡_, refl, sym, ap, _∙_}
-use mathlib.Core.List.{List, [], _∷_}
+use mathlib.Core.List.{[], _∷_}
 use lib.ListN.{length, getD, drop, drop-of-length-le}
 use lib.Dec.{ltb, leb, eqb}
 use borrow.Author.Tests.{eq-eqb, ne-eqb, lt-ltb, le-ltb, ltb-true, ltb-false, eqb-true, eqb-false, leb-true}
 use native.Mathlib.Omega.{arith}
+use Rattle.octets.specs.Bytes.{Bytes}
 use Rattle.octets.specs.Choice.{choose, both, either}
 use Rattle.octets.specs.Search.{allFrom}
 use Rattle.octets.proofs.ChoiceLaws.{both-first, both-second}
@@ -18,12 +19,12 @@ use Rattle.octets.proofs.WriteLaws.{drop-next}
 use Rattle.dates.specs.Dates.{fitsByte, fitsAt, fitsPattern, datePattern, isDate, timePattern, isTime, before}
 
 -- nothing is before what has no bytes left
-pub before-none : (a : List ℕ) → before a [] ≡ false
+pub before-none : (a : Bytes) → before a [] ≡ false
 unfolding before
 before-none [] = refl
 before-none (x ∷ a) = refl
 
-module _ (a b : List ℕ) (i : ℕ) (h : i < length b) where
+module _ (a b : Bytes) (i : ℕ) (h : i < length b) where
   -- a has no byte left, b has one
   pub before-short : length a ≤ i → before (drop i a) (drop i b) ≡ true
   unfolding before
@@ -49,7 +50,7 @@ module _ (a b : List ℕ) (i : ℕ) (h : i < length b) where
 -- ---- the order of bytes is that of time: two values of one pattern compare as the numbers of their digits do
 
 -- the number that the digits of a value spell, read on from n; what is no digit is passed over
-unfoldable pub number : ℕ → List ℕ → ℕ
+unfoldable pub number : ℕ → Bytes → ℕ
 number n [] = n
 number n (b ∷ v) = choose (inClass Digit b) (number (n * 10 + (b - code "0")) v) (number n v)
 
@@ -57,7 +58,7 @@ number n (b ∷ v) = choose (inClass Digit b) (number (n * 10 + (b - code "0")) 
 abbrev alike : ℕ → ℕ → Bool
 alike x y = either (both (inClass Digit x) (inClass Digit y)) (eqb x y)
 
-unfoldable allAlike : List ℕ → List ℕ → Bool
+unfoldable allAlike : Bytes → Bytes → Bool
 allAlike [] [] = true
 allAlike [] (y ∷ b) = false
 allAlike (x ∷ a) [] = false
@@ -70,7 +71,7 @@ digit-least : (x : ℕ) → inClass Digit x ≡ true → code "0" ≤ x
 digit-least x d = leb-true (code "0") x (both-first (leb (code "0") x) _ d)
 
 -- a lead is kept
-lead : (a b : List ℕ) (n k : ℕ) → allAlike a b ≡ true → n < k → number n a < number k b
+lead : (a b : Bytes) (n k : ℕ) → allAlike a b ≡ true → n < k → number n a < number k b
 unfolding number allAlike
 lead [] [] n k e h = h
 lead [] (y ∷ b) n k e h = absurd (false≢true e)
@@ -85,7 +86,7 @@ lead (x ∷ a) (y ∷ b) n k e h = by (inClass Digit x) (inClass Digit y) refl r
     by true false p q g rest = absurd (false≢true (sym q ∙ ap (inClass Digit) (sym (eqb-true x y g)) ∙ p))
     by false true p q g rest = absurd (false≢true (sym p ∙ ap (inClass Digit) (eqb-true x y g) ∙ q))
 
-alike-back : (a b : List ℕ) → allAlike a b ≡ true → allAlike b a ≡ true
+alike-back : (a b : Bytes) → allAlike a b ≡ true → allAlike b a ≡ true
 unfolding allAlike
 alike-back [] [] e = refl
 alike-back [] (y ∷ b) e = absurd (false≢true e)
@@ -113,7 +114,7 @@ module _ (x y : ℕ) (rest : Bool) where
       let ge : y ≤ x = omega arith in
       rw (le-ltb x y ge, ne-eqb x y (λ e. omega arith))
 
-ordered : (a b : List ℕ) (n : ℕ) → allAlike a b ≡ true → before a b ≡ ltb (number n a) (number n b)
+ordered : (a b : Bytes) (n : ℕ) → allAlike a b ≡ true → before a b ≡ ltb (number n a) (number n b)
 unfolding number allAlike before
 ordered [] [] n e = sym (le-ltb n n (omega arith))
 ordered [] (y ∷ b) n e = absurd (false≢true e)
@@ -149,13 +150,13 @@ ordered (x ∷ a) (y ∷ b) n e = by (inClass Digit x) (inClass Digit y) refl re
 
 -- ---- values of one pattern are alike
 
-unfoldable rowFits : List ℕ → List ℕ → Bool
+unfoldable rowFits : Bytes → Bytes → Bool
 rowFits [] [] = true
 rowFits [] (x ∷ v) = false
 rowFits (q ∷ p) [] = false
 rowFits (q ∷ p) (x ∷ v) = both (fitsByte q x) (rowFits p v)
 
-row-fits : (p v : List ℕ) → length v ≡ length p → allFrom (fitsAt p v) 0 (length v) ≡ true → rowFits p v ≡ true
+row-fits : (p v : Bytes) → length v ≡ length p → allFrom (fitsAt p v) 0 (length v) ≡ true → rowFits p v ≡ true
 unfolding rowFits allFrom
 row-fits [] [] l e = refl
 row-fits [] (x ∷ v) l e = absurd (omega arith)
@@ -165,7 +166,7 @@ row-fits (q ∷ p) (x ∷ v) l e =
     let more : allFrom (fitsAt (q ∷ p) (x ∷ v)) 1 (length v) ≡ true = both-second (fitsByte q x) (allFrom (fitsAt (q ∷ p) (x ∷ v)) 1 (length v)) e in
     rw here (row-fits p v (omega arith) (sym (all-shift (fitsAt (q ∷ p) (x ∷ v)) 0 (length v)) ∙ more))
 
-alike-fits : (p a b : List ℕ) → rowFits p a ≡ true → rowFits p b ≡ true → allAlike a b ≡ true
+alike-fits : (p a b : Bytes) → rowFits p a ≡ true → rowFits p b ≡ true → allAlike a b ≡ true
 unfolding rowFits allAlike
 alike-fits [] [] [] e f = refl
 alike-fits [] (x ∷ a) b e f = absurd (false≢true e)
@@ -182,8 +183,8 @@ alike-fits (q ∷ p) (x ∷ a) (y ∷ b) e f = rw (by (eqb q (code "0")) (both-f
     by true g h = rw (g, h)
     by false g h = rw (eq-eqb x y (eqb-true x q g ∙ sym (eqb-true y q h))) (or (both (inClass Digit x) (inClass Digit y)))
 
-module _ (p a b : List ℕ) (fa : fitsPattern p a ≡ true) (fb : fitsPattern p b ≡ true) where
-  row-of : (v : List ℕ) → fitsPattern p v ≡ true → rowFits p v ≡ true
+module _ (p a b : Bytes) (fa : fitsPattern p a ≡ true) (fb : fitsPattern p b ≡ true) where
+  row-of : (v : Bytes) → fitsPattern p v ≡ true → rowFits p v ≡ true
   unfolding fitsPattern
   row-of v e = row-fits p v (eqb-true _ _ (both-first (eqb (length v) (length p)) _ e)) (both-second (eqb (length v) (length p)) _ e)
 
@@ -191,11 +192,11 @@ module _ (p a b : List ℕ) (fa : fitsPattern p a ≡ true) (fb : fitsPattern p 
   pattern-order = ordered a b 0 (alike-fits p a b (row-of a fa) (row-of b fb))
 
 -- a date is before another exactly where its number YYYYMMDD is smaller
-pub date-order : (a b : List ℕ) → isDate a ≡ true → isDate b ≡ true → before a b ≡ ltb (number 0 a) (number 0 b)
+pub date-order : (a b : Bytes) → isDate a ≡ true → isDate b ≡ true → before a b ≡ ltb (number 0 a) (number 0 b)
 unfolding isDate
 date-order a b e f = pattern-order datePattern a b (both-first (fitsPattern datePattern a) _ e) (both-first (fitsPattern datePattern b) _ f)
 
 -- a time is before another exactly where its number YYYYMMDDhhmmss is smaller
-pub time-order : (a b : List ℕ) → isTime a ≡ true → isTime b ≡ true → before a b ≡ ltb (number 0 a) (number 0 b)
+pub time-order : (a b : Bytes) → isTime a ≡ true → isTime b ≡ true → before a b ≡ ltb (number 0 a) (number 0 b)
 unfolding isTime
 time-order a b e f = pattern-order timePattern a b (both-first (fitsPattern timePattern a) _ e) (both-first (fitsPattern timePattern b) _ f)

@@ -2,9 +2,10 @@
 use Prim.Native.Nat.{ℕ, _+_, _-_, _*_, _%_}
 use Prim.Native.Char.{code}
 use mathlib.Core.Bool.{Bool, true, false, not}
-use mathlib.Core.List.{List, [], _∷_}
+use mathlib.Core.List.{[], _∷_}
 use lib.ListN.{length, getD}
 use lib.Dec.{ltb, leb, eqb}
+use Rattle.octets.specs.Bytes.{Bytes}
 use Rattle.octets.specs.Choice.{choose, both, either}
 use Rattle.octets.specs.Search.{all}
 use Rattle.octets.specs.Text.{text}
@@ -18,17 +19,17 @@ firstYear = 1900
 abbrev pub fitsByte : ℕ → ℕ → Bool
 fitsByte p b = choose (eqb p (code "0")) (inClass Digit b) (eqb b p)
 
-abbrev pub fitsAt : List ℕ → List ℕ → ℕ → Bool
+abbrev pub fitsAt : Bytes → Bytes → ℕ → Bool
 fitsAt p v k = fitsByte (getD p k 0) (getD v k 0)
 
-unfoldable pub fitsPattern : List ℕ → List ℕ → Bool
+unfoldable pub fitsPattern : Bytes → Bytes → Bool
 fitsPattern p v = both (eqb (length v) (length p)) (all (fitsAt p v) (length v))
 
 -- the number of the digit at i, and of the two digits from i on
-abbrev pub digitAt : List ℕ → ℕ → ℕ
+abbrev pub digitAt : Bytes → ℕ → ℕ
 digitAt v i = getD v i 0 - code "0"
 
-unfoldable pub twoDigits : List ℕ → ℕ → ℕ
+unfoldable pub twoDigits : Bytes → ℕ → ℕ
 twoDigits v i = digitAt v i * 10 + digitAt v (i + 1)
 
 unfoldable pub leap : ℕ → Bool
@@ -44,26 +45,26 @@ unfoldable pub gregorian : ℕ → ℕ → ℕ → Bool
 gregorian y m d = both (leb firstYear y) (both (within 1 12 m) (within 1 (daysIn y m) d))
 
 -- the first ten bytes name a date
-unfoldable pub namesDate : List ℕ → Bool
+unfoldable pub namesDate : Bytes → Bool
 namesDate v = gregorian (twoDigits v 0 * 100 + twoDigits v 2) (twoDigits v 5) (twoDigits v 8)
 
-abbrev pub datePattern : List ℕ
+abbrev pub datePattern : Bytes
 datePattern = text "0000-00-00"
 
-unfoldable pub isDate : List ℕ → Bool
+unfoldable pub isDate : Bytes → Bool
 isDate v = both (fitsPattern datePattern v) (namesDate v)
 
-abbrev pub timePattern : List ℕ
+abbrev pub timePattern : Bytes
 timePattern = text "0000-00-00T00:00:00Z"
 
 -- hours 00 to 23, minutes and seconds 00 to 59
-unfoldable pub isTime : List ℕ → Bool
+unfoldable pub isTime : Bytes → Bool
 isTime v =
     both (fitsPattern timePattern v)
     (both (namesDate v) (both (ltb (twoDigits v 11) 24) (both (ltb (twoDigits v 14) 60) (ltb (twoDigits v 17) 60))))
 
 -- a date before a date, a time before a time (verdict 13): places are fixed and the most significant comes first, so bytes are in the order of time
-unfoldable pub before : List ℕ → List ℕ → Bool
+unfoldable pub before : Bytes → Bytes → Bool
 before a [] = false
 before [] (y ∷ b) = true
 before (x ∷ a) (y ∷ b) = either (ltb x y) (both (eqb x y) (before a b))

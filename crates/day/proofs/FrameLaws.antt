@@ -3,7 +3,7 @@ use Prim.Native.Nat.{ℕ, _+_, _<_, _≤_}
 use mathlib.Core.Bool.{true}
 use mathlib.Core.Path.{_≡_, sym, ap, _∙_}
 use mathlib.Core.Logic.{_⊎_, inl, inr}
-use mathlib.Core.List.{List, [], _∷_, _++_}
+use mathlib.Core.List.{[], _∷_, _++_}
 use native.Mathlib.Numerals.{add-one}
 use native.Mathlib.Decide.{decLt}
 use native.Mathlib.Omega.{arith}
@@ -11,6 +11,7 @@ use borrow.Author.Tests.{lt-ltb, le-ltb, le-leb, lt-leb, leb-true}
 use lib.ListN.{length, drop, getD, set, length-append, length-drop}
 use lib.Seq.{take-suc, set-split, getD-drop, take-append-le}
 use lib.Dec.{leb}
+use Rattle.octets.specs.Bytes.{Bytes}
 use Rattle.octets.specs.Part.{part, splice}
 use Rattle.octets.specs.Number.{fromLe}
 use Rattle.octets.proofs.ChoiceLaws.{both-first, both-second}
@@ -20,7 +21,7 @@ use Rattle.day.specs.Frame.{lengthSize, lengthOf, isWhole, frameOf}
 
 -- ---- what stands at the front, by the length of the input
 
-module _ (longest : ℕ) (xs : List ℕ) where
+module _ (longest : ℕ) (xs : Bytes) where
   pub no-length : length xs < lengthSize → frameOf longest xs ≡ Partial
   unfolding frameOf
   no-length h = rw (lt-leb lengthSize (length xs) h)
@@ -41,18 +42,18 @@ module _ (longest : ℕ) (xs : List ℕ) where
 
 -- ---- bytes moved to the front
 
-set-one : (d : List ℕ) (i b : ℕ) → i < length d → set d i b ≡ splice d i (b ∷ [])
+set-one : (d : Bytes) (i b : ℕ) → i < length d → set d i b ≡ splice d i (b ∷ [])
 unfolding splice
 set-one d i b h = rw (set-split d i b h, ← add-one i)
 
-part-one : (xs : List ℕ) (from i : ℕ) → from + i < length xs → part xs from i ++ (getD xs (from + i) 0 ∷ []) ≡ part xs from (i + 1)
+part-one : (xs : Bytes) (from i : ℕ) → from + i < length xs → part xs from i ++ (getD xs (from + i) 0 ∷ []) ≡ part xs from (i + 1)
 part-one xs from i h =
     rw (← getD-drop from xs i 0, add-one i) (sym (take-suc (drop from xs) i 0 (simp length-drop (omega arith))))
 
-pub kept-more : (xs : List ℕ) (from i : ℕ) → from + i < length xs → set (splice xs 0 (part xs from i)) i (getD (splice xs 0 (part xs from i)) (from + i) 0) ≡ splice xs 0 (part xs from (i + 1))
+pub kept-more : (xs : Bytes) (from i : ℕ) → from + i < length xs → set (splice xs 0 (part xs from i)) i (getD (splice xs 0 (part xs from i)) (from + i) 0) ≡ splice xs 0 (part xs from (i + 1))
 kept-more xs from i h =
-    let ys : List ℕ = part xs from i in
-    let d : List ℕ = splice xs 0 ys in
+    let ys : Bytes = part xs from i in
+    let d : Bytes = splice xs 0 ys in
     let n : length ys ≡ i = length-part xs from i (omega arith) in
     let there : getD d (from + i) 0 ≡ getD xs (from + i) 0 = byte-apart xs ys 0 (from + i) (omega (arith, n)) (λ _. omega (arith, n)) in
     let one : set d i (getD d (from + i) 0) ≡ splice d i (getD xs (from + i) 0 ∷ []) = ap (set d i) there ∙ set-one d i _ (omega (arith, n, length-splice xs ys 0 (omega (arith, n)))) in
@@ -65,14 +66,14 @@ kept-more xs from i h =
 
 -- ---- what is whole stays what it is, whatever comes behind it
 
-length-more : (xs ys : List ℕ) → lengthSize ≤ length xs → lengthOf (xs ++ ys) ≡ lengthOf xs
+length-more : (xs ys : Bytes) → lengthSize ≤ length xs → lengthOf (xs ++ ys) ≡ lengthOf xs
 length-more xs ys h = ap fromLe (take-append-le lengthSize xs ys h)
 
-pub whole-length : (xs : List ℕ) → isWhole xs ≡ true → (lengthSize ≤ length xs) × (lengthSize + lengthOf xs ≤ length xs)
+pub whole-length : (xs : Bytes) → isWhole xs ≡ true → (lengthSize ≤ length xs) × (lengthSize + lengthOf xs ≤ length xs)
 whole-length xs e =
     (leb-true lengthSize (length xs) (both-first _ _ e), leb-true (lengthSize + lengthOf xs) (length xs) (both-second (leb lengthSize (length xs)) _ e))
 
-whole-more : (xs ys : List ℕ) → isWhole xs ≡ true → isWhole (xs ++ ys) ≡ true
+whole-more : (xs ys : Bytes) → isWhole xs ≡ true → isWhole (xs ++ ys) ≡ true
 whole-more xs ys e =
     let h = whole-length xs e in
     let n : length (xs ++ ys) ≡ length xs + length ys = length-append xs ys in
@@ -81,7 +82,7 @@ whole-more xs ys e =
     rw (two, all)
 
 -- it is a message or too long
-pub whole-frame : (longest : ℕ) (xs : List ℕ) → isWhole xs ≡ true → (frameOf longest xs ≡ Overlong (lengthOf xs)) ⊎ (frameOf longest xs ≡ Message (lengthOf xs))
+pub whole-frame : (longest : ℕ) (xs : Bytes) → isWhole xs ≡ true → (frameOf longest xs ≡ Overlong (lengthOf xs)) ⊎ (frameOf longest xs ≡ Message (lengthOf xs))
 whole-frame longest xs e =
     let h : (lengthSize ≤ length xs) × (lengthSize + lengthOf xs ≤ length xs) = whole-length xs e in
     elim (decLt longest (lengthOf xs)) [
@@ -89,6 +90,6 @@ whole-frame longest xs e =
       | no l ↦ inr (a-message longest xs (h .0) (h .1) (omega (arith, l)))
     ]
 
-pub frame-more : (longest : ℕ) (xs ys : List ℕ) → isWhole xs ≡ true → frameOf longest (xs ++ ys) ≡ frameOf longest xs
+pub frame-more : (longest : ℕ) (xs ys : Bytes) → isWhole xs ≡ true → frameOf longest (xs ++ ys) ≡ frameOf longest xs
 unfolding frameOf
 frame-more longest xs ys e = rw (whole-more xs ys e, e, length-more xs ys (whole-length xs e .0))

@@ -6,6 +6,7 @@ use mathlib.Core.Path.{_≡_}
 use mathlib.Core.List.{List, [], _∷_, _++_}
 use lib.ListN.{length}
 use lib.Dec.{ltb}
+use Rattle.octets.specs.Bytes.{Bytes}
 use Rattle.octets.specs.Choice.{choose}
 use Rattle.octets.specs.Part.{splice}
 use Rattle.octets.specs.Number.{digits}
@@ -26,7 +27,7 @@ digitsFrom (suc d) k n = choose (ltb n 10) k (digitsFrom d (suc k) (n / 10))
 unfoldable pub digitCount : ℕ → ℕ
 digitCount n = digitsFrom (mostDigits - 1) 1 n
 
-unfoldable pub decimal : ℕ → List ℕ
+unfoldable pub decimal : ℕ → Bytes
 decimal n = digits (digitCount n) n
 
 -- the digits hold the number, and no fewer do
@@ -42,26 +43,26 @@ space = code " "
 abbrev pub newline : ℕ
 newline = code "\n"
 
-unfoldable pub line : List (List ℕ) → List ℕ
+unfoldable pub line : List Bytes → Bytes
 line [] = newline ∷ []
 line (f ∷ []) = f ++ (newline ∷ [])
 line (f ∷ (g ∷ gs)) = (f ++ (space ∷ [])) ++ line (g ∷ gs)
 
 -- the first line has four words
-unfoldable pub heading : List ℕ
+unfoldable pub heading : Bytes
 heading = line (text "message" ∷ text "verdict" ∷ text "element" ∷ text "record" ∷ [])
 
 -- then one line a message: position from 1, verdict, element, identifier given or 0
-unfoldable pub reportLine : ℕ → ℕ → ℕ → ℕ → List ℕ
+unfoldable pub reportLine : ℕ → ℕ → ℕ → ℕ → Bytes
 reportLine position verdict element identifier =
     line (decimal position ∷ decimal verdict ∷ decimal element ∷ decimal identifier ∷ [])
 
 -- "end" or, where input stops inside a length or message, "cut"
-abbrev pub lastWord : Bool → List ℕ
+abbrev pub lastWord : Bool → Bytes
 lastWord isCut = choose isCut (text "cut") (text "end")
 
 -- the last line: the word, then messages judged, then lines published
-unfoldable pub lastLine : Bool → ℕ → ℕ → List ℕ
+unfoldable pub lastLine : Bool → ℕ → ℕ → Bytes
 lastLine isCut judged published = line (lastWord isCut ∷ decimal judged ∷ decimal published ∷ [])
 
 -- the most bytes of a line: four numbers, each with the byte behind it
@@ -69,6 +70,6 @@ abbrev pub longestLine : ℕ
 longestLine = 4 * (mostDigits + 1)
 
 -- the bytes d' are d with ys written from `at` on, and r is the place behind them
-pub record Put (d : List ℕ) (at : ℕ) (ys d' : List ℕ) (r : ℕ) : Type 0 where
+pub record Put (d : Bytes) (at : ℕ) (ys d' : Bytes) (r : ℕ) : Type 0 where
   pub bytes : d' ≡ splice d at ys
   pub place : r ≡ at + length ys

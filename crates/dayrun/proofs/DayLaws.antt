@@ -3,12 +3,13 @@ use Prim.Native.Nat.{ℕ, zero, suc, _+_, _<_, _≤_}
 use mathlib.Core.Bool.{Bool, true, false}
 use mathlib.Core.Path.{_≡_, refl, sym, ap, _∙_}
 use mathlib.Core.Logic.{⊎-elim}
-use mathlib.Core.List.{List, _++_}
+use mathlib.Core.List.{_++_}
 use native.Mathlib.Omega.{arith}
 use borrow.Author.Tests.{ne-eqb}
 use lib.ListN.{length, take, drop, length-drop}
 use lib.Seq.{take-append-le, drop-append-le}
 use lib.Dec.{eqb}
+use Rattle.octets.specs.Bytes.{Bytes}
 use Rattle.octets.specs.Part.{part}
 use Rattle.submission.specs.Opening.{documentLimits}
 use Rattle.submission.specs.Submission.{submitted}
@@ -21,37 +22,37 @@ use Rattle.dayrun.specs.Blocks.{Judged-at-once}
 
 -- ---- a step, by what stands at the front
 
-pub step-on : (d : Day) (xs : List ℕ) (f : Frame) → frameOf (documentLimits .longest) xs ≡ f → step d xs ≡ stepOn d xs f
+pub step-on : (d : Day) (xs : Bytes) (f : Frame) → frameOf (documentLimits .longest) xs ≡ f → step d xs ≡ stepOn d xs f
 unfolding step
 step-on d xs f e = ap (stepOn d xs) e
 
 -- a step that takes nothing changes nothing, any other counts one message
-none-taken : (d : Day) (xs : List ℕ) (f : Frame) → stepOn d xs f .taken ≡ 0 → stepOn d xs f .after ≡ d
+none-taken : (d : Day) (xs : Bytes) (f : Frame) → stepOn d xs f .taken ≡ 0 → stepOn d xs f .after ≡ d
 none-taken d xs (Message n) e = absurd (omega (arith, e))
 none-taken d xs (Overlong n) e = absurd (omega (arith, e))
 none-taken d xs Partial e = refl
 
-some-taken : (d : Day) (xs : List ℕ) (f : Frame) → 0 < stepOn d xs f .taken → stepOn d xs f .after .judged ≡ d .judged + 1
+some-taken : (d : Day) (xs : Bytes) (f : Frame) → 0 < stepOn d xs f .taken → stepOn d xs f .after .judged ≡ d .judged + 1
 some-taken d xs (Message n) h = refl
 some-taken d xs (Overlong n) h = refl
 some-taken d xs Partial h = absurd (omega (arith, h))
 
-pub step-none : (d : Day) (xs : List ℕ) → step d xs .taken ≡ 0 → step d xs .after ≡ d
+pub step-none : (d : Day) (xs : Bytes) → step d xs .taken ≡ 0 → step d xs .after ≡ d
 unfolding step
 step-none d xs e = none-taken d xs (frameOf (documentLimits .longest) xs) e
 
-pub step-one : (d : Day) (xs : List ℕ) → 0 < step d xs .taken → step d xs .after .judged ≡ d .judged + 1
+pub step-one : (d : Day) (xs : Bytes) → 0 < step d xs .taken → step d xs .after .judged ≡ d .judged + 1
 unfolding step
 step-one d xs h = some-taken d xs (frameOf (documentLimits .longest) xs) h
 
 -- ---- after one message more
 
-pub after-more : (k : ℕ) (d : Day) (xs : List ℕ) → afterMessages (suc k) d xs ≡ step (afterMessages k d xs) (restAfter k d xs) .after
+pub after-more : (k : ℕ) (d : Day) (xs : Bytes) → afterMessages (suc k) d xs ≡ step (afterMessages k d xs) (restAfter k d xs) .after
 unfolding afterMessages restAfter
 after-more zero d xs = refl
 after-more (suc k) d xs = after-more k (step d xs .after) (drop (step d xs .taken) xs)
 
-pub rest-more : (k : ℕ) (d : Day) (xs : List ℕ) → restAfter (suc k) d xs ≡ drop (step (afterMessages k d xs) (restAfter k d xs) .taken) (restAfter k d xs)
+pub rest-more : (k : ℕ) (d : Day) (xs : Bytes) → restAfter (suc k) d xs ≡ drop (step (afterMessages k d xs) (restAfter k d xs) .taken) (restAfter k d xs)
 unfolding afterMessages restAfter
 rest-more zero d xs = refl
 rest-more (suc k) d xs = rest-more k (step d xs .after) (drop (step d xs .taken) xs)
@@ -59,12 +60,12 @@ rest-more (suc k) d xs = rest-more k (step d xs .after) (drop (step d xs .taken)
 -- ---- reading in pieces
 
 -- the part of the message is there
-part-more : (xs ys : List ℕ) (at n : ℕ) → at + n ≤ length xs → part (xs ++ ys) at n ≡ part xs at n
+part-more : (xs ys : Bytes) (at n : ℕ) → at + n ≤ length xs → part (xs ++ ys) at n ≡ part xs at n
 part-more xs ys at n h =
     ap (take n) (drop-append-le at xs ys (omega arith)) ∙ take-append-le n (drop at xs) ys (omega (arith, length-drop at xs))
 
 -- a message that has come whole comes to the same
-pub step-more : (d : Day) (xs ys : List ℕ) → isWhole xs ≡ true → step d (xs ++ ys) ≡ step d xs
+pub step-more : (d : Day) (xs ys : Bytes) → isWhole xs ≡ true → step d (xs ++ ys) ≡ step d xs
 step-more d xs ys e =
     let more = frame-more (documentLimits .longest) xs ys e in
     let sent = part-more xs ys lengthSize (lengthOf xs) (whole-length xs e .1) in
@@ -72,12 +73,12 @@ step-more d xs ys e =
     (λ f. step-on d (xs ++ ys) (Overlong (lengthOf xs)) (more ∙ f) ∙ sym (step-on d xs (Overlong (lengthOf xs)) f))
     (λ f.
     step-on d (xs ++ ys) (Message (lengthOf xs)) (more ∙ f)
-    ∙ ap (λ (m : List ℕ). answered d (lengthOf xs) (submitted documentLimits (d .lent) m)) sent
+    ∙ ap (λ (m : Bytes). answered d (lengthOf xs) (submitted documentLimits (d .lent) m)) sent
     ∙ sym (step-on d xs (Message (lengthOf xs)) f))
     (whole-frame (documentLimits .longest) xs e)
 
 -- and takes its length and its bytes
-step-takes : (d : Day) (xs : List ℕ) → isWhole xs ≡ true → step d xs .taken ≡ lengthSize + lengthOf xs
+step-takes : (d : Day) (xs : Bytes) → isWhole xs ≡ true → step d xs .taken ≡ lengthSize + lengthOf xs
 step-takes d xs e =
     ⊎-elim
     (λ f. ap (λ (s : Step). s .taken) (step-on d xs (Overlong (lengthOf xs)) f))
@@ -85,7 +86,7 @@ step-takes d xs e =
     (whole-frame (documentLimits .longest) xs e)
 
 -- where a step takes nothing no message is whole
-pub not-whole-left : (d : Day) (xs : List ℕ) → step d xs .taken ≡ 0 → isWhole xs ≡ false
+pub not-whole-left : (d : Day) (xs : Bytes) → step d xs .taken ≡ 0 → isWhole xs ≡ false
 not-whole-left d xs z = not-true (isWhole xs) (λ e. absurd (omega (arith, z, step-takes d xs e)))
   where
     not-true : (b : Bool) → (b ≡ true → ⊥) → b ≡ false

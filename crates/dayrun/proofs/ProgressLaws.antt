@@ -2,11 +2,11 @@
 use Prim.Native.Nat.{ℕ, suc, _+_, _-_, _<_, _≤_}
 use mathlib.Core.Bool.{Bool, true, false}
 use mathlib.Core.Path.{_≡_, refl, sym, ap, _∙_, subst}
-use mathlib.Core.List.{List}
 use native.Mathlib.Nat.{add-zero}
 use native.Mathlib.Omega.{arith}
 use lib.ListN.{length, drop}
 use lib.Seq.{drop-drop}
+use Rattle.octets.specs.Bytes.{Bytes}
 use Rattle.octets.specs.Choice.{choose}
 use Rattle.submission.specs.Lent.{Lent}
 use Rattle.submission.specs.Submission.{Submitted}
@@ -23,7 +23,7 @@ use Rattle.dayrun.specs.Progress.{counted, dayOf, stepAt, progressAfter,
 
 -- ---- what is counted is the step's
 
-module _ (lent : Lent) (xs : List ℕ) (p : Progress) (n : ℕ) (s : Submitted) (told : step (dayOf lent p) xs ≡ answered (dayOf lent p) n s) (a : Answer) (same : a ≡ submissionAnswer s) where
+module _ (lent : Lent) (xs : Bytes) (p : Progress) (n : ℕ) (s : Submitted) (told : step (dayOf lent p) xs ≡ answered (dayOf lent p) n s) (a : Answer) (same : a ≡ submissionAnswer s) where
   pub told-progress : counted p (lengthSize + n) (reportLine (p .judged + 1) (a .verdict) (a .element) (a .identifier)) (a .identifier) ≡ progressAfter p (step (dayOf lent p) xs)
   told-progress =
       ap (λ (b : Answer). counted p (lengthSize + n) (reportLine (p .judged + 1) (b .verdict) (b .element) (b .identifier)) (b .identifier)) same ∙ ap (progressAfter p) (sym told)
@@ -33,7 +33,7 @@ module _ (lent : Lent) (xs : List ℕ) (p : Progress) (n : ℕ) (s : Submitted) 
       ap (λ (b : Answer). reportLine (p .judged + 1) (b .verdict) (b .element) (b .identifier)) same ∙ ap (λ x. x .line) (sym told)
 
 -- where no message is whole nothing is counted
-pub unmoved : (lent : Lent) (xs : List ℕ) (p : Progress) → p ≡ progressAfter p (stepOn (dayOf lent p) xs Partial)
+pub unmoved : (lent : Lent) (xs : Bytes) (p : Progress) → p ≡ progressAfter p (stepOn (dayOf lent p) xs Partial)
 unmoved lent xs p =
     let row : ℕ → ℕ → Progress = λ at used. record { at = at; used = used; judged = p .judged; published = p .published; «is_open» = p .«is_open» } in
     ap (λ (at : ℕ). row at (p .used)) (sym (add-zero (p .at))) ∙ ap (row (p .at + 0)) (sym (add-zero (p .used)))
@@ -84,7 +84,7 @@ pub front-within : (n most : ℕ) (p r : Progress) → r ≡ atFront p → Withi
 front-within n most p r e w =
     subst (Within 0 most) (sym e) (record { passed = omega arith; waiting = w .waiting; lines = w .lines; messages = w .messages })
 
-pub front-leaves : (input : List ℕ) (kept : ℕ) (p r : Progress) → r ≡ atFront p → kept ≡ length input - p .at → Leaves input p → r .«is_open» ≡ true → r .judged < mostMessages → kept < longestFrame
+pub front-leaves : (input : Bytes) (kept : ℕ) (p r : Progress) → r ≡ atFront p → kept ≡ length input - p .at → Leaves input p → r .«is_open» ≡ true → r .judged < mostMessages → kept < longestFrame
 front-leaves input kept p r e k leaves o m =
     let h : length input - p .at < longestFrame = leaves (ap (λ (x : Progress). x .«is_open») (sym e) ∙ o) (subst (λ (x : Progress). x .judged < mostMessages) e m) .1 in
     omega (arith, h, k)
@@ -98,13 +98,13 @@ day-same d lent p a c e =
     ∙ ap (λ (j : ℕ). row (d .lent) j (p .published)) c
     ∙ ap (row (d .lent) (d .judged)) e
 
-pub reached-start : (lent : Lent) (input : List ℕ) (p : Progress) → Reached lent input p lent p
+pub reached-start : (lent : Lent) (input : Bytes) (p : Progress) → Reached lent input p lent p
 unfolding afterMessages restAfter
 reached-start lent input p =
     let none : p .judged - p .judged ≡ 0 = omega arith in
     record { counted = omega arith; day = rw none; rest = rw none }
 
-module _ {lent₀ : Lent} {input : List ℕ} {p₀ : Progress} {lent lent′ : Lent} {p r : Progress} (so-far : Reached lent₀ input p₀ lent p) (told : r ≡ progressAfter p (stepAt lent input p)) (left : lent′ ≡ stepAt lent input p .after .lent) where
+module _ {lent₀ : Lent} {input : Bytes} {p₀ : Progress} {lent lent′ : Lent} {p r : Progress} (so-far : Reached lent₀ input p₀ lent p) (told : r ≡ progressAfter p (stepAt lent input p)) (left : lent′ ≡ stepAt lent input p .after .lent) where
   moved : r .at ≡ p .at + stepAt lent input p .taken
   moved = ap (λ (x : Progress). x .at) told
 
@@ -127,7 +127,7 @@ module _ {lent₀ : Lent} {input : List ℕ} {p₀ : Progress} {lent lent′ : L
   reached-more w h a j u =
       let k : ℕ = p .judged - p₀ .judged in
       let d : Day = dayOf lent₀ p₀ in
-      let xs : List ℕ = drop (p₀ .at) input in
+      let xs : Bytes = drop (p₀ .at) input in
       let s : Step = stepAt lent input p in
       let s′ : Step = step (afterMessages k d xs) (restAfter k d xs) in
       let one : s .after .judged ≡ p .judged + 1 = step-one (dayOf lent p) (drop (p .at) input) (omega (arith, moved, h)) in

@@ -2,9 +2,10 @@
 use Prim.Native.Nat.{ℕ, suc}
 use mathlib.Core.Bool.{true}
 use mathlib.Core.Path.{_≡_}
-use mathlib.Core.List.{List, [], _∷_, _++_}
+use mathlib.Core.List.{[], _∷_, _++_}
 use lib.ListN.{drop}
 use Prim.Native.String.{String}
+use Rattle.octets.specs.Bytes.{Bytes}
 use Rattle.octets.specs.Text.{text}
 use Rattle.day.specs.Frame.{isWhole}
 use Rattle.dayrun.specs.Day.{Day, step, reportFrom, dayReport}
@@ -12,12 +13,12 @@ use Rattle.dayrun.specs.Day.{Day, step, reportFrom, dayReport}
 -- a message that has come whole can be judged at once: its line is the next of the report, whatever comes behind it
 abbrev pub Judged-at-once : Type 0
 Judged-at-once =
-    (k : ℕ) (d : Day) (xs ys : List ℕ)
+    (k : ℕ) (d : Day) (xs ys : Bytes)
     → isWhole xs ≡ true
     → reportFrom (suc k) d (xs ++ ys) ≡ step d xs .line ++ reportFrom k (step d xs .after) (drop (step d xs .taken) xs ++ ys)
 
 -- the whole output for a few inputs
-abbrev pub Example : List ℕ → String → Type 0
+abbrev pub Example : Bytes → String → Type 0
 Example xs lines = dayReport xs ≡ text "message verdict element record\n" ++ text lines
 
 -- for the bytes 02 00 00 00 it is document 01's; no input; a lone byte; a length without its message; a length of 0

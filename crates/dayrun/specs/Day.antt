@@ -1,13 +1,14 @@
 -- Document 01, 'The day run': the whole output for a day's input.
-use Prim.Native.Nat.{ℕ, zero, suc, _+_, _*_}
-use mathlib.Core.List.{List, [], _++_}
+use Prim.Native.Nat.{ℕ, zero, suc, _+_}
+use mathlib.Core.List.{[], _++_}
 use lib.ListN.{length, drop, replicate}
 use lib.Dec.{eqb, ltb}
+use Rattle.octets.specs.Bytes.{Bytes}
 use Rattle.octets.specs.Choice.{choose}
 use Rattle.octets.specs.Part.{part}
 use Rattle.rules.specs.Verdicts.{layoutWrong}
 use Rattle.ledger.specs.declared.header.Caps.{Caps}
-use Rattle.ledger.specs.Layout.{headerSize, rowSize, lineSize}
+use Rattle.ledger.specs.Layout.{rowStart, lineSize}
 use Rattle.submission.specs.Opening.{documentLimits, opened}
 use Rattle.submission.specs.Lent.{Lent, lentOf}
 use Rattle.submission.specs.Submission.{Submitted, submitted, refused}
@@ -43,7 +44,7 @@ linesOf identifier = choose (eqb identifier 0) 0 1
 -- what the front of the input comes to: the bytes it takes (none where no message is whole), its line, and the day after it
 pub record Step : Type 0 where
   pub taken : ℕ
-  pub line : List ℕ
+  pub line : Bytes
   pub after : Day
 
 -- a message that is answered counts as judged; its position is counted from 1
@@ -56,25 +57,25 @@ answered d n s =
     }
 
 -- one longer than the longest is passed over, and 5 is reported
-abbrev pub stepOn : Day → List ℕ → Frame → Step
+abbrev pub stepOn : Day → Bytes → Frame → Step
 stepOn d xs (Message n) = answered d n (submitted documentLimits (d .lent) (part xs lengthSize n))
 stepOn d xs (Overlong n) = answered d n (refused (layoutWrong, 0) (d .lent))
 stepOn d xs Partial = record { taken = 0; line = []; after = d }
 
-unfoldable pub step : Day → List ℕ → Step
+unfoldable pub step : Day → Bytes → Step
 step d xs = stepOn d xs (frameOf (documentLimits .longest) xs)
 
 -- the day after k messages of the input, and what is left of the input then
-unfoldable pub afterMessages : ℕ → Day → List ℕ → Day
+unfoldable pub afterMessages : ℕ → Day → Bytes → Day
 afterMessages zero d xs = d
 afterMessages (suc k) d xs = afterMessages k (step d xs .after) (drop (step d xs .taken) xs)
 
-unfoldable pub restAfter : ℕ → Day → List ℕ → List ℕ
+unfoldable pub restAfter : ℕ → Day → Bytes → Bytes
 restAfter zero d xs = xs
 restAfter (suc k) d xs = restAfter k (step d xs .after) (drop (step d xs .taken) xs)
 
 -- the lines of the messages from here on, k at most, and the last line: "cut" where bytes are left over
-unfoldable pub reportFrom : ℕ → Day → List ℕ → List ℕ
+unfoldable pub reportFrom : ℕ → Day → Bytes → Bytes
 reportFrom zero d xs = lastLine (ltb 0 (length xs)) (d .judged) (d .published)
 reportFrom (suc k) d xs =
     choose (eqb (step d xs .taken) 0)
@@ -85,11 +86,11 @@ reportFrom (suc k) d xs =
 abbrev pub newDay : Day
 newDay =
     record {
-      lent = lentOf (opened documentLimits caps (replicate (headerSize + rows * rowSize) 0) .ledger) (replicate lineSize 0);
+      lent = lentOf (opened documentLimits caps (replicate (rowStart rows) 0) .ledger) (replicate lineSize 0);
       judged = 0;
       published = 0;
     }
 
 -- the whole output; a message takes two bytes at least, so there are fewer messages than bytes
-unfoldable pub dayReport : List ℕ → List ℕ
+unfoldable pub dayReport : Bytes → Bytes
 dayReport xs = heading ++ reportFrom (length xs) newDay xs

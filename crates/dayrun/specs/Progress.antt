@@ -2,8 +2,8 @@
 use Prim.Native.Nat.{ℕ, _+_, _-_, _<_, _≤_}
 use mathlib.Core.Bool.{Bool, true, false}
 use mathlib.Core.Path.{_≡_}
-use mathlib.Core.List.{List}
 use lib.ListN.{length, drop}
+use Rattle.octets.specs.Bytes.{Bytes}
 use Rattle.octets.specs.Choice.{choose}
 use Rattle.dayrun.specs.declared.judging.Progress.{Progress}
 use Rattle.submission.specs.Lent.{Lent}
@@ -12,7 +12,7 @@ use Rattle.day.specs.Report.{heading, longestLine}
 use Rattle.dayrun.specs.Day.{Day, Step, mostMessages, linesOf, step, afterMessages, restAfter}
 
 -- after a message that takes so many bytes of the input and has such a line and identifier
-abbrev pub counted : Progress → ℕ → List ℕ → ℕ → Progress
+abbrev pub counted : Progress → ℕ → Bytes → ℕ → Progress
 counted p taken line identifier =
     record { at = p .at + taken; used = p .used + length line; judged = p .judged + 1; published = p .published + linesOf identifier; «is_open» = p .«is_open» }
 
@@ -21,7 +21,7 @@ abbrev pub dayOf : Lent → Progress → Day
 dayOf lent p = record { lent = lent; judged = p .judged; published = p .published }
 
 -- the step at the front of what is left of the input
-abbrev pub stepAt : Lent → List ℕ → Progress → Step
+abbrev pub stepAt : Lent → Bytes → Progress → Step
 stepAt lent input p = step (dayOf lent p) (drop (p .at) input)
 
 abbrev pub progressAfter : Progress → Step → Progress
@@ -29,7 +29,7 @@ progressAfter p s =
     record { at = p .at + s .taken; used = p .used + length (s .line); judged = s .after .judged; published = s .after .published; «is_open» = p .«is_open» }
 
 -- from p₀ to p the messages of the input were judged, one after the other: so many as were counted, and none was left out
-pub record Reached (lent₀ : Lent) (input : List ℕ) (p₀ : Progress) (lent : Lent) (p : Progress) : Type 0 where
+pub record Reached (lent₀ : Lent) (input : Bytes) (p₀ : Progress) (lent : Lent) (p : Progress) : Type 0 where
   pub counted : p₀ .judged ≤ p .judged
   pub day : dayOf lent p ≡ afterMessages (p .judged - p₀ .judged) (dayOf lent₀ p₀) (drop (p₀ .at) input)
   pub rest : drop (p .at) input ≡ restAfter (p .judged - p₀ .judged) (dayOf lent₀ p₀) (drop (p₀ .at) input)
@@ -72,6 +72,6 @@ pub record Steps (n : ℕ) (p r : Progress) : Type 0 where
   pub stays : r .at ≡ p .at → (n - p .at < longestFrame) × (r .used ≡ p .used)
 
 -- no message that is whole is left of the input, and less than the longest message
-abbrev pub Leaves : List ℕ → Progress → Type 0
+abbrev pub Leaves : Bytes → Progress → Type 0
 Leaves input p =
     p .«is_open» ≡ true → p .judged < mostMessages → (isWhole (drop (p .at) input) ≡ false) × (length input - p .at < longestFrame)

@@ -1,7 +1,7 @@
 -- The codes that messages of an action take, by a test that is computed over the table. Assumes nothing.
 use Prim.Native.Nat.{ℕ, _+_, _-_}
 use mathlib.Core.Bool.{Bool, true, false, false≢true}
-use mathlib.Core.Path.{_≡_, refl, ap, _∙_, subst}
+use mathlib.Core.Path.{_≡_, refl, subst}
 use native.Mathlib.Omega.{arith}
 use Rattle.octets.specs.Search.{allFrom}
 use Rattle.octets.proofs.SearchLaws.{all-at}

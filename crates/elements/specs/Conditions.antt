@@ -1,7 +1,8 @@
 -- Document 01, 'Elements': elements that are needed under an "if" (verdict 11), and what is left out.
 use Prim.Native.Nat.{ℕ}
 use mathlib.Core.Bool.{Bool, true, false}
-use mathlib.Core.List.{List, []}
+use mathlib.Core.List.{[]}
+use Rattle.octets.specs.Bytes.{Bytes}
 use Rattle.octets.specs.Choice.{choose, both}
 use Rattle.octets.specs.Text.{text}
 use Rattle.octets.specs.Same.{sameBytes}
@@ -14,15 +15,15 @@ use Rattle.elements.specs.declared.conditions.Facts.{Facts}
 use Rattle.elements.specs.Table.{elementOf}
 
 -- 15 is true
-unfoldable pub isPackage : List ℕ → Bool
+unfoldable pub isPackage : Bytes → Bool
 isPackage m = isTrue (value packageIndicator m)
 
 -- 18 is a code
-unfoldable pub notationIs : List ℕ → List ℕ → Bool
+unfoldable pub notationIs : Bytes → Bytes → Bool
 notationIs code m = sameBytes (value priceNotation m) code
 
 -- what the "if"s ask of a message
-unfoldable pub factsOf : List ℕ → Facts
+unfoldable pub factsOf : Bytes → Facts
 factsOf m =
     record {
       uncleared = sameBytes (value cleared m) (text "N");
@@ -39,9 +40,9 @@ met Package f = f .packaged
 met InCurrency f = f .currency
 
 -- the element is due under its "if"
-unfoldable pub isDue : ℕ → List ℕ → Bool
+unfoldable pub isDue : ℕ → Bytes → Bool
 isDue code m = met (elementOf code .due) (factsOf m)
 
 -- an element whose "if" is not met is left out
-unfoldable pub kept : ℕ → List ℕ → List ℕ
+unfoldable pub kept : ℕ → Bytes → Bytes
 kept code m = choose (met (elementOf code .shown) (factsOf m)) (value code m) []

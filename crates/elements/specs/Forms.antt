@@ -1,7 +1,7 @@
 -- Document 01, 'Elements': the form of each element (verdict 9).
 use Prim.Native.Nat.{ℕ}
 use mathlib.Core.Bool.{Bool, true, false}
-use mathlib.Core.List.{List}
+use Rattle.octets.specs.Bytes.{Bytes}
 use Rattle.values.specs.Run.{isUti, isEvent, isPackageIdentifier, isCurrency, isLocation}
 use Rattle.values.specs.Code.{isTruth, isCleared, isAllocation, isNotation, isAssetClass}
 use Rattle.values.specs.Lei.{isLei}
@@ -20,7 +20,7 @@ isRead (Fault code) = false
 isRead (Value a) = true
 
 -- a value has a form; there is none for a code that no element has
-abbrev pub fits : Form → List ℕ → Bool
+abbrev pub fits : Form → Bytes → Bool
 fits Unknown v = false
 fits Uti v = isUti v
 fits Action v = isRead (actionOf v)
@@ -40,5 +40,5 @@ fits Lei v = isLei v
 fits AssetClass v = isAssetClass v
 
 -- a value has the form of the element with a code
-unfoldable pub hasForm : ℕ → List ℕ → Bool
+unfoldable pub hasForm : ℕ → Bytes → Bool
 hasForm code v = fits (elementOf code .form) v

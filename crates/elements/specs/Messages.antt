@@ -3,6 +3,7 @@ use Prim.Native.Nat.{ℕ, zero, suc, _≤_}
 use mathlib.Core.Bool.{Bool, true, false}
 use mathlib.Core.Path.{_≡_}
 use mathlib.Core.List.{List, [], _∷_, map}
+use Rattle.octets.specs.Bytes.{Bytes}
 use Rattle.octets.specs.Choice.{choose}
 use Rattle.message.specs.Layout.{layoutRight}
 use Rattle.actions.specs.declared.Action.{Action}
@@ -30,7 +31,7 @@ unfoldable pub mostEntries : ℕ
 mostEntries = howMany known
 
 -- the layout of a message (verdict 5)
-unfoldable pub hasLayout : ℕ → List ℕ → Bool
+unfoldable pub hasLayout : ℕ → Bytes → Bool
 hasLayout longest m = layoutRight longest mostEntries known m
 
 -- a message of the action is of the kinds

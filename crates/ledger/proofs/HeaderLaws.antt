@@ -5,6 +5,7 @@ use mathlib.Core.Bool.{Bool, true, false}
 use mathlib.Core.List.{List, [], _∷_, map}
 use mathlib.Core.Path.{_≡_, refl}
 use native.Mathlib.Omega.{arith}
+use Rattle.octets.specs.Bytes.{Bytes}
 use Rattle.octets.specs.Choice.{choose}
 use Rattle.octets.specs.Same.{sameBytes, beside}
 use Rattle.octets.specs.Text.{text}
@@ -30,11 +31,11 @@ each-cap caps e =
 
 -- ---- the cap of a class is what the masking requires of it
 
-none-largest : (v : List ℕ) → beside [] 0 v ≤ largestCap
+none-largest : (v : Bytes) → beside [] 0 v ≤ largestCap
 unfolding beside
 none-largest v = omega arith
 
-more-largest : (c : String × ℕ) (cs : List (String × ℕ)) (v : List ℕ) → isCap (c .1) ≡ true → beside cs 0 v ≤ largestCap → beside (c ∷ cs) 0 v ≤ largestCap
+more-largest : (c : String × ℕ) (cs : List (String × ℕ)) (v : Bytes) → isCap (c .1) ≡ true → beside cs 0 v ≤ largestCap → beside (c ∷ cs) 0 v ≤ largestCap
 unfolding beside
 more-largest c cs v e l = by (sameBytes v (text (c .0)))
   where
@@ -42,7 +43,7 @@ more-largest c cs v e l = by (sameBytes v (text (c .0)))
     by true = cap-largest (c .1) e
     by false = l
 
-pub cap-for-largest : (caps : Caps) → areCaps caps ≡ true → (v : List ℕ) → capFor caps v ≤ largestCap
+pub cap-for-largest : (caps : Caps) → areCaps caps ≡ true → (v : Bytes) → capFor caps v ≤ largestCap
 unfolding capFor
 cap-for-largest caps e v =
     let is = each-cap caps e in

@@ -1,3 +1,4 @@
+pub mod DocumentLaws
 pub mod HeaderLaws
 pub mod RightHeader
 pub mod NewHeader

@@ -2,10 +2,10 @@
 use Prim.Native.Nat.{ℕ, suc, _+_, _^_, _<_, _≤_}
 use mathlib.Core.Bool.{Bool, true, false}
 use mathlib.Core.Path.{_≡_, refl, ap, _∙_}
-use mathlib.Core.List.{List}
 use native.Mathlib.Omega.{arith}
 use native.Mathlib.Decide.{decLt}
 use lib.ListN.{length, getD}
+use Rattle.octets.specs.Bytes.{Bytes}
 use Rattle.octets.specs.Choice.{choose}
 use Rattle.octets.specs.Part.{part, splice}
 use Rattle.octets.specs.Number.{fromLe, toLe}
@@ -18,7 +18,7 @@ use Rattle.ledger.specs.Header.{rowsInUse, nextIdentifier, capsIn}
 use Rattle.ledger.specs.Rows.{rowAt, withRows, withNext, headerAfter}
 
 -- what a write does not touch: a part that ends before it or starts after it
-module _ (l ys : List ℕ) (at : ℕ) (h : at + length ys ≤ length l) where
+module _ (l ys : Bytes) (at : ℕ) (h : at + length ys ≤ length l) where
   part-beside : (from n : ℕ) → (at < from + n → at + length ys ≤ from) → part (splice l at ys) from n ≡ part l from n
   part-beside from n apart =
       elim (decLt at (from + n)) [
@@ -47,7 +47,7 @@ module _ (l ys : List ℕ) (at : ℕ) (h : at + length ys ≤ length l) where
 
 -- ---- a row is written
 
-module _ (l r : List ℕ) (k : ℕ) (size : length r ≡ rowSize) (room : rowStart (suc k) ≤ length l) where
+module _ (l r : Bytes) (k : ℕ) (size : length r ≡ rowSize) (room : rowStart (suc k) ≤ length l) where
   fits : rowStart k + length r ≤ length l
   fits = omega arith
 
@@ -72,7 +72,7 @@ module _ (l r : List ℕ) (k : ℕ) (size : length r ≡ rowSize) (room : rowSta
 
 -- ---- rows in use are written
 
-module _ (l : List ℕ) (n : ℕ) (room : headerSize ≤ length l) where
+module _ (l : Bytes) (n : ℕ) (room : headerSize ≤ length l) where
   rows-fit : rowsAt + length (toLe u32 n) ≤ length l
   rows-fit = omega (arith, length-toLe u32 n)
 
@@ -123,9 +123,9 @@ module _ (l : List ℕ) (n : ℕ) (room : headerSize ≤ length l) where
 
 -- ---- both are raised, as the action says
 
-module _ (a : Action) (rows next : ℕ) (l : List ℕ) (room : headerSize ≤ length l) where
+module _ (a : Action) (rows next : ℕ) (l : Bytes) (room : headerSize ≤ length l) where
   -- what a function says of a ledger stays where neither write touches it
-  stays : {A : Type 0} (f : List ℕ → A) → ((n : ℕ) (d : List ℕ) → headerSize ≤ length d → f (withRows n d) ≡ f d) → ((n : ℕ) (d : List ℕ) → headerSize ≤ length d → f (withNext n d) ≡ f d) → f (headerAfter a rows next l) ≡ f l
+  stays : {A : Type 0} (f : Bytes → A) → ((n : ℕ) (d : Bytes) → headerSize ≤ length d → f (withRows n d) ≡ f d) → ((n : ℕ) (d : Bytes) → headerSize ≤ length d → f (withNext n d) ≡ f d) → f (headerAfter a rows next l) ≡ f l
   unfolding headerAfter
   stays f e g = by (isNew a) (writesLine a)
     where
@@ -172,7 +172,7 @@ module _ (a : Action) (rows next : ℕ) (l : List ℕ) (room : headerSize ≤ le
       counted : (rowsAt ≤ i → rowsAt + u32 ≤ i) → getD (splice l rowsAt (toLe u32 (rows + 1))) i 0 ≡ getD l i 0
       counted h = byte-apart l (toLe u32 (rows + 1)) rowsAt i (rows-fit l (rows + 1) room) (λ b. omega (arith, length-toLe u32 (rows + 1), h b))
 
-      raised : (d : List ℕ) → headerSize ≤ length d → (nextAt ≤ i → nextAt + u64 ≤ i) → getD (splice d nextAt (toLe u64 (next + 1))) i 0 ≡ getD d i 0
+      raised : (d : Bytes) → headerSize ≤ length d → (nextAt ≤ i → nextAt + u64 ≤ i) → getD (splice d nextAt (toLe u64 (next + 1))) i 0 ≡ getD d i 0
       raised d r h = byte-apart d (toLe u64 (next + 1)) nextAt i (next-fit d (next + 1) r) (λ b. omega (arith, length-toLe u64 (next + 1), h b))
 
       by : (b c : Bool) → (b ≡ true → rowsAt ≤ i → rowsAt + u32 ≤ i) → (c ≡ true → nextAt ≤ i → nextAt + u64 ≤ i)

@@ -2,11 +2,11 @@
 use Prim.Native.Nat.{ℕ, _≤_}
 use mathlib.Core.Bool.{Bool, true, false}
 use mathlib.Core.Path.{_≡_, refl, subst}
-use mathlib.Core.List.{List}
 use native.Mathlib.Omega.{arith}
 use lib.ListN.{length}
 use lib.Dec.{eqb, leb}
 use borrow.Author.Tests.{eqb-true, leb-true, eq-eqb, le-leb}
+use Rattle.octets.specs.Bytes.{Bytes}
 use Rattle.octets.specs.Choice.{choose, both}
 use Rattle.octets.proofs.ChoiceLaws.{both-first, both-second}
 use Rattle.values.specs.Run.{within}
@@ -17,7 +17,7 @@ use Rattle.ledger.specs.declared.header.HeaderCheck.the-variants.{Fault,
 use Rattle.ledger.specs.Header.{rowsInUse, firstRow, nextIdentifier, sizeOfRows, capacityIn, capsIn, areCaps, capacityFor, headerRight, RightHeader, headerOf, checkedHeader}
 
 -- the header is right exactly where each clause holds
-pub right-header : (largest : ℕ) (l : List ℕ) → headerRight largest l ≡ true → RightHeader largest l
+pub right-header : (largest : ℕ) (l : Bytes) → headerRight largest l ≡ true → RightHeader largest l
 unfolding headerRight
 right-header largest l e =
     let c₁ = leb shortestLedger (length l) in
@@ -44,7 +44,7 @@ right-header largest l e =
       caps = both-second c₆ c₇ r₆;
     }
 
-pub header-right : (largest : ℕ) (l : List ℕ) → RightHeader largest l → headerRight largest l ≡ true
+pub header-right : (largest : ℕ) (l : Bytes) → RightHeader largest l → headerRight largest l ≡ true
 unfolding headerRight
 header-right largest l h =
     rw (
@@ -59,7 +59,7 @@ header-right largest l h =
     )
 
 -- there is room for as many rows as the capacity says, and the capacity is no larger than the largest
-module _ (largest : ℕ) (l : List ℕ) (h : RightHeader largest l) where
+module _ (largest : ℕ) (l : Bytes) (h : RightHeader largest l) where
   pub rows-fit : rowStart (capacityIn l) ≤ length l
   unfolding capacityFor
   rows-fit = omega (arith, h .long, h .capacity)
@@ -70,11 +70,11 @@ module _ (largest : ℕ) (l : List ℕ) (h : RightHeader largest l) where
 
 -- ---- what the check of a ledger tells
 
-abbrev pub HeaderTold : ℕ → List ℕ → HeaderCheck → Type 0
+abbrev pub HeaderTold : ℕ → Bytes → HeaderCheck → Type 0
 HeaderTold largest l Fault = headerRight largest l ≡ false
 HeaderTold largest l (Value h) = (headerRight largest l ≡ true) × (h ≡ headerOf l)
 
-pub header-told : (largest : ℕ) (l : List ℕ) (r : HeaderCheck) → checkedHeader largest l ≡ r → HeaderTold largest l r
+pub header-told : (largest : ℕ) (l : Bytes) (r : HeaderCheck) → checkedHeader largest l ≡ r → HeaderTold largest l r
 unfolding checkedHeader
 header-told largest l r e = subst (HeaderTold largest l) e (by (headerRight largest l) refl)
   where
@@ -83,7 +83,7 @@ header-told largest l r e = subst (HeaderTold largest l) e (by (headerRight larg
     by false g = g
 
 -- the rows in use lie within the ledger
-pub used-fit : (largest : ℕ) (l : List ℕ) (h : Header) → headerRight largest l ≡ true → h ≡ headerOf l → rowStart (h .rows) ≤ length l
+pub used-fit : (largest : ℕ) (l : Bytes) (h : Header) → headerRight largest l ≡ true → h ≡ headerOf l → rowStart (h .rows) ≤ length l
 unfolding headerOf
 used-fit largest l h e g =
     let right : RightHeader largest l = right-header largest l e in

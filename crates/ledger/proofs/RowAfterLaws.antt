@@ -1,71 +1,71 @@
 -- Laws of specs/Rows.antt: what is written of a row leaves it as long as it is. Assumes nothing.
 use Prim.Native.Nat.{ℕ}
-use mathlib.Core.Bool.{Bool, true, false}
-use mathlib.Core.Path.{_≡_, refl, _∙_}
-use mathlib.Core.List.{List, [], _∷_}
+use mathlib.Core.Bool.{Bool, true, false, false≢true}
+use mathlib.Core.Path.{_≡_, refl, sym, _∙_}
+use mathlib.Core.List.{[], _∷_}
 use native.Mathlib.Omega.{arith}
 use lib.ListN.{length}
+use Rattle.octets.specs.Bytes.{Bytes}
+use Rattle.octets.specs.Choice.{choose}
 use Rattle.octets.specs.Number.{toLe}
 use Rattle.octets.specs.Fields.{written, Placed}
 use Rattle.octets.proofs.NumberLaws.{length-toLe}
 use Rattle.octets.proofs.PartLaws.{length-splice}
-use Rattle.octets.proofs.FieldRun.{inPlace, length-bytes, all-written, field-placed}
+use Rattle.octets.proofs.FieldRun.{length-bytes, all-written, field-placed}
 use Rattle.terms.specs.Terms.{termsSize}
 use Rattle.actions.specs.declared.Action.{Action}
-use Rattle.actions.specs.declared.Action.the-variants.{Newt, Modi, Corr, Term, Eror, Revi, Prto}
 use Rattle.actions.specs.Actions.{isFull, writesLine, isNew}
+use Rattle.actions.proofs.KindLaws.{old-unless-full, line-if-full}
 use Rattle.ledger.specs.Layout.{u64, statusAt, identifierAt, termsAt, rowSize}
 use Rattle.ledger.specs.Rows.{rowFields, newRow, withStatus, withIdentifier, withTerms, rowAfter}
 
--- the fields follow each other from the row's start to its end
-pub row-in-place : (status : ℕ) (u : List ℕ) (identifier : ℕ) (terms : List ℕ) → inPlace statusAt (rowFields status u identifier terms) rowSize ≡ true
-unfolding inPlace rowFields
-row-in-place status u identifier terms = refl
+module _ (status : ℕ) (u : Bytes) (identifier : ℕ) (terms : Bytes) where
+  pub length-new-row : length (newRow status u identifier terms) ≡ rowSize
+  unfolding newRow
+  length-new-row = length-bytes (rowFields status u identifier terms)
 
-pub length-new-row : (status : ℕ) (u : List ℕ) (identifier : ℕ) (terms : List ℕ) → length (newRow status u identifier terms) ≡ rowSize
-unfolding newRow
-length-new-row status u identifier terms = omega (arith, length-bytes statusAt (rowFields status u identifier terms) rowSize (row-in-place status u identifier terms))
+  -- its fields, written one after the other
+  pub row-written : (d : Bytes) {last : Bytes} → length d ≡ rowSize → last ≡ written statusAt (rowFields status u identifier terms) d → last ≡ newRow status u identifier terms
+  unfolding newRow
+  row-written d size run = all-written (rowFields status u identifier terms) d size run
 
--- its fields, written one after the other
-pub row-written : (status : ℕ) (u : List ℕ) (identifier : ℕ) (terms d : List ℕ) {last : List ℕ} → length d ≡ rowSize → last ≡ written statusAt (rowFields status u identifier terms) d → last ≡ newRow status u identifier terms
-unfolding newRow
-row-written status u identifier terms d size run = all-written statusAt (rowFields status u identifier terms) rowSize d (row-in-place status u identifier terms) size run
+  -- each field stands at document 01's offset
+  pub row-placed : Placed statusAt (rowFields status u identifier terms) (newRow status u identifier terms)
+  unfolding newRow
+  row-placed = field-placed (rowFields status u identifier terms)
 
--- each field stands at document 01's offset
-pub row-placed : (status : ℕ) (u : List ℕ) (identifier : ℕ) (terms : List ℕ) → Placed statusAt (rowFields status u identifier terms) (newRow status u identifier terms)
-unfolding newRow
-row-placed status u identifier terms = field-placed statusAt (rowFields status u identifier terms) rowSize (row-in-place status u identifier terms)
-
-pub length-with-status : (status : ℕ) (r : List ℕ) → length r ≡ rowSize → length (withStatus status r) ≡ rowSize
+pub length-with-status : (status : ℕ) (r : Bytes) → length r ≡ rowSize → length (withStatus status r) ≡ rowSize
 unfolding withStatus
 length-with-status status r size = length-splice r (status ∷ []) statusAt (omega arith) ∙ size
 
-pub length-with-identifier : (identifier : ℕ) (r : List ℕ) → length r ≡ rowSize → length (withIdentifier identifier r) ≡ rowSize
+pub length-with-identifier : (identifier : ℕ) (r : Bytes) → length r ≡ rowSize → length (withIdentifier identifier r) ≡ rowSize
 unfolding withIdentifier
 length-with-identifier identifier r size = length-splice r (toLe u64 identifier) identifierAt (omega (arith, length-toLe u64 identifier)) ∙ size
 
-pub length-with-terms : (terms r : List ℕ) → length terms ≡ termsSize → length r ≡ rowSize → length (withTerms terms r) ≡ rowSize
+pub length-with-terms : (terms r : Bytes) → length terms ≡ termsSize → length r ≡ rowSize → length (withTerms terms r) ≡ rowSize
 unfolding withTerms
 length-with-terms terms r long size = length-splice r terms termsAt (omega arith) ∙ size
 
 -- ---- the row after an action
 
 -- what holds of each of the four ways to write a row holds of the row after any action; the tests say which actions are full, write a line, are new
-pub by-way : (P : Bool → Bool → Bool → List ℕ → Type 0) (status : ℕ) (u : List ℕ) (identifier : ℕ) (terms r : List ℕ)
-    → P true true true (newRow status u identifier terms)
-    → P true true false (withTerms terms (withIdentifier identifier (withStatus status r)))
-    → P false true false (withIdentifier identifier (withStatus status r))
-    → P false false false (withStatus status r)
-    → (a : Action) → P (isFull a) (writesLine a) (isNew a) (rowAfter a status u identifier terms r)
-by-way P status u identifier terms r new changed marked set Newt = new
-by-way P status u identifier terms r new changed marked set Modi = changed
-by-way P status u identifier terms r new changed marked set Corr = changed
-by-way P status u identifier terms r new changed marked set Term = marked
-by-way P status u identifier terms r new changed marked set Eror = marked
-by-way P status u identifier terms r new changed marked set Revi = changed
-by-way P status u identifier terms r new changed marked set Prto = set
+pub by-way : (P : Bool → Bool → Bool → Bytes → Type 0) {new changed marked set : Bytes}
+    → P true true true new
+    → P true true false changed
+    → P false true false marked
+    → P false false false set
+    → (a : Action) → P (isFull a) (writesLine a) (isNew a) (choose (isNew a) new (choose (isFull a) changed (choose (writesLine a) marked set)))
+by-way P {new} {changed} {marked} {set} one two three four a = by (isFull a) (writesLine a) (isNew a) (old-unless-full a) (line-if-full a)
+  where
+    by : (f l n : Bool) → (f ≡ false → n ≡ false) → (l ≡ false → f ≡ false) → P f l n (choose n new (choose f changed (choose l marked set)))
+    by true true true old line = one
+    by true true false old line = two
+    by true false n old line = absurd (false≢true (sym (line refl)))
+    by false l true old line = absurd (false≢true (sym (old refl)))
+    by false true false old line = three
+    by false false false old line = four
 
-pub length-row-after : (a : Action) (status : ℕ) (u : List ℕ) (identifier : ℕ) (terms r : List ℕ) → length terms ≡ termsSize → length r ≡ rowSize → length (rowAfter a status u identifier terms r) ≡ rowSize
+pub length-row-after : (a : Action) (status : ℕ) (u : Bytes) (identifier : ℕ) (terms r : Bytes) → length terms ≡ termsSize → length r ≡ rowSize → length (rowAfter a status u identifier terms r) ≡ rowSize
 length-row-after a status u identifier terms r long size =
     let marked : length (withIdentifier identifier (withStatus status r)) ≡ rowSize = length-with-identifier identifier _ (length-with-status status r size) in
-    by-way (λ f l n x. length x ≡ rowSize) status u identifier terms r (length-new-row status u identifier terms) (length-with-terms terms _ long marked) marked (length-with-status status r size) a
+    by-way (λ f l n x. length x ≡ rowSize) (length-new-row status u identifier terms) (length-with-terms terms _ long marked) marked (length-with-status status r size) a

@@ -2,11 +2,11 @@
 use Prim.Native.Nat.{ℕ, _+_, _<_, _≤_}
 use mathlib.Core.Bool.{true, false}
 use mathlib.Core.Path.{_≡_}
-use mathlib.Core.List.{List}
 use native.Mathlib.Omega.{arith}
 use lib.ListN.{length}
 use lib.Dec.{ltb}
 use borrow.Author.Tests.{ltb-true, lt-ltb, le-ltb}
+use Rattle.octets.specs.Bytes.{Bytes}
 use Rattle.actions.specs.Statuses.{unknown}
 use Rattle.ledger.specs.Layout.{rowStart}
 use Rattle.ledger.specs.Header.{rowsInUse}
@@ -14,11 +14,11 @@ use Rattle.ledger.specs.Rows.{rowAt, statusOf, identifierOf, placeOf, is
 use Rattle.ledger.specs.declared.search.Swap.{Swap}
 
 -- the row of a known swap lies within the ledger
-pub known-fits : (l u : List ℕ) → rowStart (rowsInUse l) ≤ length l → isKnown l u ≡ true → rowStart (placeOf l u + 1) ≤ length l
+pub known-fits : (l u : Bytes) → rowStart (rowsInUse l) ≤ length l → isKnown l u ≡ true → rowStart (placeOf l u + 1) ≤ length l
 unfolding isKnown
 known-fits l u fit e = omega (arith, fit, ltb-true (placeOf l u) (rowsInUse l) e)
 
-module _ (l u : List ℕ) (k : ℕ) (at : k ≡ placeOf l u) where
+module _ (l u : Bytes) (k : ℕ) (at : k ≡ placeOf l u) where
   pub swap-unknown : rowsInUse l ≤ k → _≡_ {A = Swap} (record { known = false; place = k; status = unknown; identifier = 0 }) (swapIn l u)
   unfolding swapStatus swapIdentifier isKnown
   swap-unknown h =

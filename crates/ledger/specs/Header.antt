@@ -6,11 +6,12 @@ use mathlib.Core.Path.{_≡_}
 use mathlib.Core.List.{List, [], _∷_, _++_}
 use lib.ListN.{length}
 use lib.Dec.{eqb, leb}
+use Rattle.octets.specs.Bytes.{Bytes}
 use Rattle.octets.specs.Choice.{choose, both}
 use Rattle.octets.specs.Part.{part}
-use Rattle.octets.specs.Number.{fromLe, toLe}
+use Rattle.octets.specs.Number.{fromLe}
 use Rattle.octets.specs.Same.{beside}
-use Rattle.octets.specs.Fields.{FieldAt, bytesOf}
+use Rattle.octets.specs.Fields.{FieldText, numberField, bytesOf}
 use Rattle.values.specs.Run.{within}
 use Rattle.notional.specs.Masking.{isCap}
 use Rattle.ledger.specs.Layout.{u32, u64, rowsAt, firstRowAt, nextAt, capAt, rowSizeAt, capacityAt, headerSize, rowSize, shortestLedger, identifierLimit}
@@ -21,25 +22,25 @@ use Rattle.ledger.specs.declared.header.HeaderCheck.the-variants.{Fault,
 
 -- ---- the numbers of the header, whatever the bytes
 
-unfoldable pub rowsInUse : List ℕ → ℕ
+unfoldable pub rowsInUse : Bytes → ℕ
 rowsInUse l = fromLe (part l rowsAt u32)
 
-unfoldable pub firstRow : List ℕ → ℕ
+unfoldable pub firstRow : Bytes → ℕ
 firstRow l = fromLe (part l firstRowAt u32)
 
-unfoldable pub nextIdentifier : List ℕ → ℕ
+unfoldable pub nextIdentifier : Bytes → ℕ
 nextIdentifier l = fromLe (part l nextAt u64)
 
-abbrev pub capIn : ℕ → List ℕ → ℕ
+abbrev pub capIn : ℕ → Bytes → ℕ
 capIn k l = fromLe (part l (capAt k) u64)
 
-unfoldable pub capsIn : List ℕ → Caps
+unfoldable pub capsIn : Bytes → Caps
 capsIn l = record { cr = capIn 0 l; ir = capIn 1 l; fx = capIn 2 l; eq = capIn 3 l; co = capIn 4 l }
 
-unfoldable pub sizeOfRows : List ℕ → ℕ
+unfoldable pub sizeOfRows : Bytes → ℕ
 sizeOfRows l = fromLe (part l rowSizeAt u32)
 
-unfoldable pub capacityIn : List ℕ → ℕ
+unfoldable pub capacityIn : Bytes → ℕ
 capacityIn l = fromLe (part l capacityAt u32)
 
 -- ---- caps
@@ -49,7 +50,7 @@ abbrev pub classCaps : Caps → List (String × ℕ)
 classCaps caps = ("CR", caps .cr) ∷ ("IR", caps .ir) ∷ ("FX", caps .fx) ∷ ("EQ", caps .eq) ∷ ("CO", caps .co) ∷ []
 
 -- a value that is no class has none
-unfoldable pub capFor : Caps → List ℕ → ℕ
+unfoldable pub capFor : Caps → Bytes → ℕ
 capFor caps v = beside (classCaps caps) 0 v
 
 -- each cap is in its range and its own rounded amount (verdict 2)
@@ -58,12 +59,12 @@ areCaps caps = both (isCap (caps .cr)) (both (isCap (caps .ir)) (both (isCap (ca
 
 -- ---- a right header
 
--- (length - 64) divided by 160, rounded down, or the largest capacity where that is less
+-- the length without the header, divided by the row size, rounded down, or the largest capacity where that is less
 unfoldable pub capacityFor : ℕ → ℕ → ℕ
 capacityFor largest n = min ((n - headerSize) / rowSize) largest
 
 -- the ledger is long enough and its header has the layout, no more rows than capacity, and caps
-unfoldable pub headerRight : ℕ → List ℕ → Bool
+unfoldable pub headerRight : ℕ → Bytes → Bool
 headerRight largest l =
     both (leb shortestLedger (length l))
     (both (eqb (firstRow l) headerSize)
@@ -73,7 +74,7 @@ headerRight largest l =
     (both (leb (rowsInUse l) (capacityIn l)) (areCaps (capsIn l)))))))
 
 -- the same, clause by clause
-pub record RightHeader (largest : ℕ) (l : List ℕ) : Type 0 where
+pub record RightHeader (largest : ℕ) (l : Bytes) : Type 0 where
   pub long : shortestLedger ≤ length l
   pub offset : firstRow l ≡ headerSize
   pub positive : 1 ≤ nextIdentifier l
@@ -84,32 +85,32 @@ pub record RightHeader (largest : ℕ) (l : List ℕ) : Type 0 where
   pub caps : areCaps (capsIn l) ≡ true
 
 -- the numbers of a header that a submission goes on with
-unfoldable pub headerOf : List ℕ → Header
+unfoldable pub headerOf : Bytes → Header
 headerOf l = record { rows = rowsInUse l; next = nextIdentifier l; capacity = capacityIn l; caps = capsIn l }
 
 -- what the check of a ledger answers: a fault, or the header's numbers
-unfoldable pub checkedHeader : ℕ → List ℕ → HeaderCheck
+unfoldable pub checkedHeader : ℕ → Bytes → HeaderCheck
 checkedHeader largest l = choose (headerRight largest l) (Value (headerOf l)) Fault
 
 -- ---- the header that opening writes
 
 -- five caps in the order CR, IR, FX, EQ, CO
-unfoldable pub capFields : Caps → List FieldAt
+abbrev pub capFields : Caps → List FieldText
 capFields caps =
-    (capAt 0, u64, toLe u64 (caps .cr))
-    ∷ (capAt 1, u64, toLe u64 (caps .ir))
-    ∷ (capAt 2, u64, toLe u64 (caps .fx))
-    ∷ (capAt 3, u64, toLe u64 (caps .eq))
-    ∷ (capAt 4, u64, toLe u64 (caps .co))
+    numberField u64 (caps .cr)
+    ∷ numberField u64 (caps .ir)
+    ∷ numberField u64 (caps .fx)
+    ∷ numberField u64 (caps .eq)
+    ∷ numberField u64 (caps .co)
     ∷ []
 
--- 0 rows in use and next identifier 1
-unfoldable pub headerFields : Caps → ℕ → List FieldAt
+-- rows in use, 0; offset of the first row; next identifier, 1; caps; row size; capacity
+abbrev pub headerFields : Caps → ℕ → List FieldText
 headerFields caps capacity =
-    (rowsAt, u32, toLe u32 0)
-    ∷ (firstRowAt, u32, toLe u32 headerSize)
-    ∷ (nextAt, u64, toLe u64 1)
-    ∷ (capFields caps ++ ((rowSizeAt, u32, toLe u32 rowSize) ∷ (capacityAt, u32, toLe u32 capacity) ∷ []))
+    numberField u32 0
+    ∷ numberField u32 headerSize
+    ∷ numberField u64 1
+    ∷ (capFields caps ++ (numberField u32 rowSize ∷ numberField u32 capacity ∷ []))
 
-unfoldable pub newHeader : Caps → ℕ → List ℕ
+unfoldable pub newHeader : Caps → ℕ → Bytes
 newHeader caps capacity = bytesOf (headerFields caps capacity)

@@ -1,15 +1,24 @@
--- Document 01, 'The ledger' and 'The tape line': sizes and offsets in bytes.
+-- Document 01, 'The ledger' and 'The tape line': sizes and offsets in bytes. Each offset follows from the field before it; Document.antt has the numbers.
 use Prim.Native.Nat.{ℕ, _+_, _*_}
-use Rattle.terms.specs.Terms.{termsEnd}
+use mathlib.Core.List.{[]}
+use Rattle.octets.specs.Fields.{sizeOf}
+use Rattle.values.specs.Limits.{utiMost}
+use Rattle.actions.specs.declared.Action.the-variants.{Newt}
+use Rattle.terms.specs.Terms.{termsSize}
+use Rattle.ledger.specs.Line.{lineFields}
 
--- ---- the header
+-- ---- numbers, of one, four and eight bytes
 
--- its numbers are of four and of eight bytes
+abbrev pub u8 : ℕ
+u8 = 1
+
 abbrev pub u32 : ℕ
 u32 = 4
 
 abbrev pub u64 : ℕ
 u64 = 8
+
+-- ---- the header
 
 -- rows in use
 abbrev pub rowsAt : ℕ
@@ -17,29 +26,29 @@ rowsAt = 0
 
 -- offset of the first row
 abbrev pub firstRowAt : ℕ
-firstRowAt = 4
+firstRowAt = rowsAt + u32
 
 -- next identifier
 abbrev pub nextAt : ℕ
-nextAt = 8
+nextAt = firstRowAt + u32
 
 -- five caps in the order CR, IR, FX, EQ, CO
 abbrev pub capsAt : ℕ
-capsAt = 16
+capsAt = nextAt + u64
 
 abbrev pub capAt : ℕ → ℕ
 capAt k = capsAt + k * u64
 
 -- row size
 abbrev pub rowSizeAt : ℕ
-rowSizeAt = 56
+rowSizeAt = capAt 5
 
 -- capacity
 abbrev pub capacityAt : ℕ
-capacityAt = 60
+capacityAt = rowSizeAt + u32
 
 abbrev pub headerSize : ℕ
-headerSize = 64
+headerSize = capacityAt + u32
 
 -- ---- a row
 
@@ -48,38 +57,38 @@ statusAt = 0
 
 -- UTI length
 abbrev pub lengthAt : ℕ
-lengthAt = 1
+lengthAt = statusAt + u8
 
 -- UTI, space padded
 abbrev pub utiAt : ℕ
-utiAt = 2
+utiAt = lengthAt + u8
 
 abbrev pub utiSize : ℕ
-utiSize = 52
+utiSize = utiMost
 
 -- this swap's last identifier
 abbrev pub identifierAt : ℕ
-identifierAt = 54
+identifierAt = utiAt + utiSize
 
 -- masked terms
 abbrev pub termsAt : ℕ
-termsAt = 62
+termsAt = identifierAt + u64
 
 -- zero
 abbrev pub tailAt : ℕ
-tailAt = 155
+tailAt = termsAt + termsSize
 
 abbrev pub tailSize : ℕ
 tailSize = 5
 
 abbrev pub rowSize : ℕ
-rowSize = 160
+rowSize = tailAt + tailSize
 
 -- where the row at a place starts, counted from 0
 abbrev pub rowStart : ℕ → ℕ
 rowStart k = headerSize + k * rowSize
 
--- a ledger has at least one row: 224 bytes
+-- a ledger has at least one row
 abbrev pub shortestLedger : ℕ
 shortestLedger = rowStart 1
 
@@ -89,14 +98,6 @@ identifierLimit = 1_000_000_000_000
 
 -- ---- the tape line
 
--- the decimal digits of an identifier
-abbrev pub identifierDigits : ℕ
-identifierDigits = 12
-
--- a line ends with the newline
-abbrev pub newline : ℕ
-newline = 10
-
--- 146 bytes
+-- whatever it shows
 abbrev pub lineSize : ℕ
-lineSize = termsEnd + 1
+lineSize = sizeOf (lineFields Newt 0 0 [] [])

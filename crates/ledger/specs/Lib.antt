@@ -1,4 +1,5 @@
+pub mod Line
 pub mod Layout
 pub mod Header
 pub mod Rows
-pub mod Line
+pub mod Document

@@ -1,19 +1,23 @@
 // Sizes and offsets in bytes, as specs/Layout.antt has them.
 use terms::SIZE;
+use values::UTI_MOST;
 
-// The header: numbers of four and of eight bytes.
+// Numbers of one, four and eight bytes.
+pub const U8: usize = 1;
+
 pub const U32: usize = 4;
 
 pub const U64: usize = 8;
 
+// The header.
 pub const ROWS_AT: usize = 0;
 
-pub const FIRST_ROW_AT: usize = 4;
+pub const FIRST_ROW_AT: usize = ROWS_AT + U32;
 
-pub const NEXT_AT: usize = 8;
+pub const NEXT_AT: usize = FIRST_ROW_AT + U32;
 
 // The caps of the asset classes.
-pub const CR_AT: usize = 16;
+pub const CR_AT: usize = NEXT_AT + U64;
 
 pub const IR_AT: usize = CR_AT + U64;
 
@@ -23,22 +27,20 @@ pub const EQ_AT: usize = FX_AT + U64;
 
 pub const CO_AT: usize = EQ_AT + U64;
 
-pub const ROW_SIZE_AT: usize = 56;
+pub const ROW_SIZE_AT: usize = CO_AT + U64;
 
-pub const CAPACITY_AT: usize = 60;
+pub const CAPACITY_AT: usize = ROW_SIZE_AT + U32;
 
-pub const HEADER_SIZE: usize = 64;
+pub const HEADER_SIZE: usize = CAPACITY_AT + U32;
 
-// A row: status and UTI length are of one byte.
-pub const U8: usize = 1;
-
+// A row.
 pub const STATUS_AT: usize = 0;
 
 pub const LENGTH_AT: usize = STATUS_AT + U8;
 
 pub const UTI_AT: usize = LENGTH_AT + U8;
 
-pub const UTI_SIZE: usize = 52;
+pub const UTI_SIZE: usize = UTI_MOST;
 
 pub const IDENTIFIER_AT: usize = UTI_AT + UTI_SIZE;
 
@@ -55,8 +57,3 @@ pub const SHORTEST_LEDGER: usize = HEADER_SIZE + ROW_SIZE;
 
 // Identifiers are given up to the one before this.
 pub const IDENTIFIER_LIMIT: u64 = 1_000_000_000_000;
-
-// The tape line.
-pub const IDENTIFIER_DIGITS: usize = 12;
-
-pub const NEWLINE: u8 = 10;

@@ -6,10 +6,9 @@ ghost use Rattle.octets.specs.Part.{splice};
 ghost use Rattle.octets.specs.Field.{field};
 ghost use Rattle.message.specs.Values.{value};
 ghost use Rattle.terms.specs.Terms.{termsSize};
-ghost use Rattle.ledger.specs.Layout.{identifierDigits, lineSize};
-ghost use Rattle.ledger.specs.Line.{previousText, line};
-use crate::layout::IDENTIFIER_DIGITS;
-use crate::layout::NEWLINE;
+ghost use Rattle.ledger.specs.Layout.{lineSize};
+ghost use Rattle.ledger.specs.Document.{Document-sizes};
+ghost use Rattle.ledger.specs.Line.{identifierDigits, previousText, line};
 use crate::layout::U8;
 use actions::ACTION_CODE;
 use actions::Action;
@@ -23,11 +22,14 @@ use octets::field_at;
 use octets::fill_at;
 use terms::SIZE;
 use terms::TIME_SIZE;
+use values::EVENT_SIZE;
 
-// The lengths of an action and of an event in the line.
+// The decimal digits of an identifier.
+const IDENTIFIER_DIGITS: usize = 12;
+
 const ACTION_SIZE: usize = 4;
 
-const EVENT_SIZE: usize = 4;
+const NEWLINE: u8 = 10;
 
 // Where each field starts in the line.
 const DISSEMINATION_AT: usize = 0;
@@ -92,6 +94,7 @@ pub fn write_line(
 )
     requires { ⌜ (lineSize ≤ length (now tape)) × (length (now terms) ≡ termsSize) ⌝ }
     ensures { λ _. ⌜ now (tape .exit) ≡ splice (now (tape .entry)) 0 (line a identifier previous (now (m .entry)) (now (terms .entry))) ⌝ }
+    ensures { λ _. ⌜ Document-sizes ⌝ }
 {
     write_fields(&mut tape[..LINE_SIZE], a, identifier, previous, m, terms);
 }

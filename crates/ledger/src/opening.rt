@@ -4,7 +4,7 @@ ghost use Prim.Native.Nat.{_≤_};
 ghost use lib.ListN.{length};
 ghost use Rattle.octets.specs.Part.{splice};
 ghost use Rattle.octets.specs.Fields.{written};
-ghost use Rattle.ledger.specs.Layout.{rowsAt, headerSize};
+ghost use Rattle.ledger.specs.Layout.{rowsAt, capsAt, headerSize};
 ghost use Rattle.ledger.specs.Header.{capFields, newHeader};
 use crate::header::Caps;
 use crate::layout::CAPACITY_AT;
@@ -26,7 +26,7 @@ use octets::write_at;
 // Writes the caps.
 fn write_caps(dst: &mut [u8], caps: Caps)
     requires { ⌜ length (now dst) ≡ headerSize ⌝ }
-    ensures { λ _. ⌜ now (dst .exit) ≡ written rowsAt (capFields caps) (now (dst .entry)) ⌝ }
+    ensures { λ _. ⌜ now (dst .exit) ≡ written capsAt (capFields caps) (now (dst .entry)) ⌝ }
 {
     write_at(dst, CR_AT, U64, caps.cr);
     write_at(dst, IR_AT, U64, caps.ir);

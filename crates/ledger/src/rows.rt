@@ -23,6 +23,7 @@ use crate::layout::U64;
 use crate::layout::UTI_AT;
 use crate::layout::UTI_SIZE;
 use actions::Action;
+use actions::is_full;
 use actions::is_new;
 use actions::writes_line;
 use octets::copy_at;
@@ -74,14 +75,14 @@ fn update_row(row: &mut [u8], a: Action, status: u8, uti: &[u8], identifier: u64
     requires { ⌜ (length (now row) ≡ rowSize) × (length (now uti) ≤ utiSize) × (length (now terms) ≡ termsSize) ⌝ }
     ensures { λ _. ⌜ now (row .exit) ≡ rowAfter a status (now (uti .entry)) identifier (now (terms .entry)) (now (row .entry)) ⌝ }
 {
-    match a {
-        Action::Newt => write_row(row, status, uti, identifier, terms),
-        Action::Modi => change_row(row, status, identifier, terms),
-        Action::Corr => change_row(row, status, identifier, terms),
-        Action::Term => mark_row(row, status, identifier),
-        Action::Eror => mark_row(row, status, identifier),
-        Action::Revi => change_row(row, status, identifier, terms),
-        Action::Prto => set_status(row, status),
+    if is_new(a) {
+        write_row(row, status, uti, identifier, terms);
+    } else if is_full(a) {
+        change_row(row, status, identifier, terms);
+    } else if writes_line(a) {
+        mark_row(row, status, identifier);
+    } else {
+        set_status(row, status);
     }
 }
 

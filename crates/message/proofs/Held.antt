@@ -32,6 +32,7 @@ use denote.Steps.{owned}
 use denote.Struct.Declared.{Declared}
 use denote.Struct.Laws as LL
 use denote.Struct.Rest.{all-own, ownAt, rest, own-open, own-shut, own-out, own-put}
+use Rattle.octets.specs.Bytes.{Bytes}
 use Rattle.octets.specs.Part.{PartOf}
 use Rattle.message.specs.Values.{entryFrom, valueAt}
 use Rattle.message.specs.declared.Reader.{Reader}
@@ -48,14 +49,14 @@ abbrev pub Held : Lfts 1 → RattleType
 Held κs = struct.the-row (namedLft 1 0 tt κs)
 
 -- the machine value of the lent bytes
-abbrev pub bytes : RefT (List ℕ) → Val
+abbrev pub bytes : RefT Bytes → Val
 bytes s = sliceVal (s .ptr) (length (s .now))
 
 -- what a reader owns, and a reader of the bytes s at the entry n
 abbrev pub Own : Lft → Reader → Fml
 Own κ d = Held (κ, tt) .own d (lowered d ∷ [])
 
-abbrev pub reader : RefT (List ℕ) → ℕ → Reader
+abbrev pub reader : RefT Bytes → ℕ → Reader
 reader s n = record { src = s; at = n }
 
 -- numbers of some widths: their types, their machine values, and that each is below the bound of its width
@@ -83,7 +84,7 @@ Fits d = Holds (hasTy (laws.mir (named 0)) (lowered d)) × WT (lowered d)
 abbrev pub Next : Reader → ℕ → ℕ → Type 0
 Next d c n = n ≡ entryFrom (now (d .src)) c (d .at)
 
-abbrev pub Valued : Reader → RefT (List ℕ) → Type 0
+abbrev pub Valued : Reader → RefT Bytes → Type 0
 Valued d r = (now r ≡ valueAt (now (d .src)) (d .at)) × PartOf (d .src) r
 
 -- ---- the parameters
@@ -108,7 +109,7 @@ module _ {M : Type 1} (𝓤 : URA M) (H : Heap 𝓤) (𝓜 : Model 𝓤 H) (𝓖
   abbrev W : Given 𝓤 H A
   W = rules 𝓤 H 𝓜 𝓖
 
-  pub lent-fits : (κ : Lft) (s : RefT (List ℕ)) (u : Val) → Is (Lent κ) s (u ∷ []) → Typed (Lent κ .mir) (u ∷ [])
+  pub lent-fits : (κ : Lft) (s : RefT Bytes) (u : Val) → Is (Lent κ) s (u ∷ []) → Typed (Lent κ .mir) (u ∷ [])
   lent-fits κ s u = shr-slice-lawful 𝓤 H A W (named 0) κ u8 .typed s (u ∷ [])
 
   pub reader-fits : (α : NamedLft) (d : Reader) (u : Val) → Is (struct.the-row α) d (u ∷ []) → Typed (struct.the-row α .mir) (u ∷ [])
@@ -126,7 +127,7 @@ module _ {M : Type 1} (𝓤 : URA M) (H : Heap 𝓤) (𝓜 : Model 𝓤 H) (𝓖
     abbrev L : LL.Laws D
     L = laws.the-laws (namedLft 1 0 tt (κ, tt))
 
-    pub starts : (s : RefT (List ℕ)) (n : ℕ) → n < 2 ^ 64 → ent 𝓤 (sem 𝓤 H A (owns (Lent κ ∷ []) (s, tt) (bytes s ∷ [], tt))) (sem 𝓤 H A (Own κ (reader s n)))
+    pub starts : (s : RefT Bytes) (n : ℕ) → n < 2 ^ 64 → ent 𝓤 (sem 𝓤 H A (owns (Lent κ ∷ []) (s, tt) (bytes s ∷ [], tt))) (sem 𝓤 H A (Own κ (reader s n)))
     starts s n fits =
         qed W (‵ (owns (Lent κ ∷ []) (s, tt) (bytes s ∷ [], tt)) ∷ []) ∵ fsplit ! $ move ! (1 ∷ []) $ owned ! usize (Is usize) (uint-makes 𝓤 H A W w64) n _ (refl, fits) $ fjoin ! $
         move ! (1 ∷ 0 ∷ []) $ fjoin ! $ by ! (own-shut 𝓤 H A W D L (s, (n, tt)))

@@ -1,6 +1,6 @@
 -- Laws of a right layout: no value is empty; the values stand in order without gap, and the last runs to the end; an element without a value
 -- has no entry, and each entry is found by its code. Assumes nothing.
-use Prim.Native.Nat.{ℕ, zero, suc, _+_, _-_, _*_, _/_, _<_, _≤_, min}
+use Prim.Native.Nat.{ℕ, zero, suc, _+_, _-_, _/_, _<_, _≤_, min}
 use mathlib.Core.Path.{_≡_, refl, sym, ap, ap₂, _∙_, subst}
 use mathlib.Core.Bool.{Bool, true, false}
 use mathlib.Core.List.{List, [], _++_, append-nil}
@@ -11,6 +11,7 @@ use lib.Dec.{ltb, leb, eqb}
 use lib.ListN.{length, getD, take, drop, length-take, length-drop, take-append-drop}
 use lib.Seq.{take-all, drop-drop}
 use borrow.Author.Tests.{ltb-true, ltb-false, lt-ltb, le-ltb, eqb-true, eq-eqb, ne-eqb}
+use Rattle.octets.specs.Bytes.{Bytes}
 use Rattle.octets.specs.Choice.{choose, both}
 use Rattle.octets.specs.Search.{firstFrom, all}
 use Rattle.octets.proofs.ChoiceLaws.{both-first, both-second, both-none}
@@ -19,7 +20,7 @@ use Rattle.message.specs.Layout.{countSize, entrySize, count, codeAt, of
 use Rattle.message.specs.Values.{entries, entryFrom, endOf, valueAt, value, valuesFrom}
 
 -- a first entry without room behind the header is wrong
-pub header-cut : (known : List Bool) (m : List ℕ) → length m ≤ headerSize m → entryRight known m 0 ≡ false
+pub header-cut : (known : List Bool) (m : Bytes) → length m ≤ headerSize m → entryRight known m 0 ≡ false
 unfolding entryRight
 header-cut known m h = both-none (getD known (codeAt m 0) false) _ (go (ltb (offsetAt m 0) (length m)) refl)
   where
@@ -30,7 +31,7 @@ header-cut known m h = both-none (getD known (codeAt m 0) false) _ (go (ltb (off
         ne-eqb _ _ other
     go false e = refl
 
-module _ (longest most : ℕ) (known : List Bool) (m : List ℕ) (right : layoutRight longest most known m ≡ true) where
+module _ (longest most : ℕ) (known : List Bool) (m : Bytes) (right : layoutRight longest most known m ≡ true) where
   -- every entry is right
   entry-right : (k : ℕ) → k < count m → entryRight known m k ≡ true
   unfolding layoutRight

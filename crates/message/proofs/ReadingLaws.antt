@@ -2,12 +2,13 @@
 use Prim.Native.Nat.{ℕ, zero, suc, _+_, _-_, _<_, _≤_}
 use mathlib.Core.Path.{_≡_, refl, sym, ap, _∙_}
 use mathlib.Core.Bool.{Bool, true, false, false≢true}
-use mathlib.Core.List.{List, [], _∷_}
+use mathlib.Core.List.{[], _∷_}
 use native.Mathlib.Omega.{arith}
 use native.Mathlib.Nat.{sub-zero}
 use lib.Dec.{ltb, eqb}
 use lib.ListN.{length, getD}
 use borrow.Author.Tests.{ltb-true, ltb-false, lt-ltb, eqb-true, eqb-false}
+use Rattle.octets.specs.Bytes.{Bytes}
 use Rattle.octets.specs.Search.{firstFrom}
 use Rattle.octets.proofs.SearchLaws.{first-passes}
 use Rattle.message.specs.Layout.{count, codeAt, offsetAt}
@@ -15,12 +16,12 @@ use Rattle.message.specs.Values.{entries, entryFrom, endOf, valueAt, val
 use Rattle.message.specs.Reading.{Laid, Reached, nextPlace, NoneAbove}
 use Rattle.message.proofs.LayoutLaws.{entries-all, code-known, code-apart, value-runs, value-filled, missing, value-found}
 
-entries-most : (m : List ℕ) → entries m ≤ count m
+entries-most : (m : Bytes) → entries m ≤ count m
 unfolding entries
 entries-most m = omega arith
 
 -- an element whose code no entry has is missing
-pub absent : (m : List ℕ) (code : ℕ) → ((k : ℕ) → k < count m → codeAt m k ≡ code → ⊥) → value code m ≡ []
+pub absent : (m : Bytes) (code : ℕ) → ((k : ℕ) → k < count m → codeAt m k ≡ code → ⊥) → value code m ≡ []
 unfolding value entryFrom valueAt
 absent m code nowhere = rw sub-zero (go (ltb found (entries m)) refl)
   where
@@ -37,15 +38,15 @@ absent m code nowhere = rw sub-zero (go (ltb found (entries m)) refl)
     go false e = rw e
 
 -- and one that is not there is missing
-not-there : (m : List ℕ) (code : ℕ) → isThere code m ≡ false → value code m ≡ []
+not-there : (m : Bytes) (code : ℕ) → isThere code m ≡ false → value code m ≡ []
 unfolding isThere
 not-there m code e = go (value code m) e
   where
-    go : (v : List ℕ) → ltb 0 (length v) ≡ false → v ≡ []
+    go : (v : Bytes) → ltb 0 (length v) ≡ false → v ≡ []
     go [] h = refl
     go (x ∷ xs) h = absurd (omega (arith, ltb-false 0 (length (x ∷ xs)) h))
 
-module _ (m : List ℕ) (laid : Laid m) where
+module _ (m : Bytes) (laid : Laid m) where
   pub laid-entries : entries m ≡ count m
   laid-entries = entries-all (laid .longest) (laid .most) (laid .known) m (laid .right)
 

@@ -4,6 +4,7 @@ use mathlib.Core.Bool.{Bool, false}
 use mathlib.Core.List.{List}
 use lib.ListN.{length, getD}
 use lib.Dec.{ltb, leb, eqb}
+use Rattle.octets.specs.Bytes.{Bytes}
 use Rattle.octets.specs.Choice.{choose, both}
 use Rattle.octets.specs.Search.{all}
 use Rattle.octets.specs.Part.{part}
@@ -20,26 +21,26 @@ abbrev pub codeSize : ℕ
 codeSize = 2
 
 -- the u16 at a place; past the end there are zeros
-unfoldable pub u16At : List ℕ → ℕ → ℕ
+unfoldable pub u16At : Bytes → ℕ → ℕ
 u16At m at = fromLe (part m at 2)
 
 -- n, the number of entries
-abbrev pub count : List ℕ → ℕ
+abbrev pub count : Bytes → ℕ
 count m = u16At m 0
 
 -- the code and the offset of entry k
-abbrev pub codeAt : List ℕ → ℕ → ℕ
+abbrev pub codeAt : Bytes → ℕ → ℕ
 codeAt m k = u16At m (countSize + entrySize * k)
 
-abbrev pub offsetAt : List ℕ → ℕ → ℕ
+abbrev pub offsetAt : Bytes → ℕ → ℕ
 offsetAt m k = u16At m (countSize + entrySize * k + codeSize)
 
 -- where the header ends and the first value starts
-abbrev pub headerSize : List ℕ → ℕ
+abbrev pub headerSize : Bytes → ℕ
 headerSize m = countSize + entrySize * count m
 
 -- entry k: its code is known; its offset is below the message's length; the first offset is the header's size; codes and offsets rise strictly
-unfoldable pub entryRight : List Bool → List ℕ → ℕ → Bool
+unfoldable pub entryRight : List Bool → Bytes → ℕ → Bool
 entryRight known m k =
     both (getD known (codeAt m k) false)
     (both (ltb (offsetAt m k) (length m))
@@ -49,7 +50,7 @@ entryRight known m k =
 
 -- a message has a count and is no longer than the longest, n is at most the most, with n = 0 it is the count alone, and else each entry is right.
 -- `known` says of each code from 0 on whether a message may have it
-unfoldable pub layoutRight : ℕ → ℕ → List Bool → List ℕ → Bool
+unfoldable pub layoutRight : ℕ → ℕ → List Bool → Bytes → Bool
 layoutRight longest most known m =
     both (leb countSize (length m))
     (both (leb (length m) longest)

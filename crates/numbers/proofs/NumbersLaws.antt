@@ -1,19 +1,19 @@
 -- Laws of specs/Numbers.antt: the size of a number that its form admits. Assumes nothing.
 use Prim.Native.Nat.{ℕ, _+_, _≤_}
 use mathlib.Core.Bool.{Bool, true, false}
-use mathlib.Core.List.{List}
 use mathlib.Core.Path.{_≡_, refl}
 use native.Mathlib.Omega.{arith}
 use borrow.Author.Tests.{ltb-false, leb-true}
 use lib.Dec.{leb}
 use lib.ListN.{length, length-drop}
+use Rattle.octets.specs.Bytes.{Bytes}
 use Rattle.octets.specs.Choice.{choose, both}
 use Rattle.octets.proofs.ChoiceLaws.{both-first, both-second}
 use Rattle.values.specs.Run.{runOf}
 use Rattle.values.specs.declared.run.Class.the-variants.{Digit}
 use Rattle.numbers.specs.Numbers.{pointIn, hasPoint, wholeOf, decimalsOf, isNumber}
 
-module _ (a b : ℕ) (v : List ℕ) (e : isNumber a b v ≡ true) where
+module _ (a b : ℕ) (v : Bytes) (e : isNumber a b v ≡ true) where
   whole-run : runOf 1 a Digit (wholeOf v) ≡ true
   unfolding isNumber
   whole-run = both-first (runOf 1 a Digit (wholeOf v)) _ e

@@ -12,6 +12,7 @@ use lib.Dec.{ltb}
 use borrow.Author.Tests.{ltb-true, ltb-false}
 use lib.Seq.{set-split, drop-at, length-take-le, getD-take, getD-drop}
 use lib.Arith.{digits-lt}
+use Rattle.octets.specs.Bytes.{Bytes}
 use Rattle.octets.specs.Part.{part}
 use Rattle.octets.specs.Number.{fromLe, toLe, digits}
 
@@ -40,10 +41,10 @@ fromLe-toLe (suc n) v h =
     rw (fromLe-toLe n (v / 256) l) (omega arith)
 
 -- bytes that stand for the same number are the same, where there are as many of them
-abbrev pub Bytes : List ℕ → Type 0
-Bytes xs = (k : ℕ) → getD xs k 0 < 256
+abbrev pub EachByte : Bytes → Type 0
+EachByte xs = (k : ℕ) → getD xs k 0 < 256
 
-pub fromLe-same : (xs ys : List ℕ) → length xs ≡ length ys → Bytes xs → Bytes ys → fromLe xs ≡ fromLe ys → xs ≡ ys
+pub fromLe-same : (xs ys : Bytes) → length xs ≡ length ys → EachByte xs → EachByte ys → fromLe xs ≡ fromLe ys → xs ≡ ys
 unfolding fromLe
 fromLe-same [] [] l f g e = refl
 fromLe-same [] (y ∷ ys) l f g e = absurd (omega arith)
@@ -54,7 +55,7 @@ fromLe-same (x ∷ xs) (y ∷ ys) l f g e =
     let rest : fromLe xs ≡ fromLe ys = omega arith in
     ap₂ _∷_ (omega arith) (fromLe-same xs ys (omega arith) (λ k. f (suc k)) (λ k. g (suc k)) rest)
 
-pub part-bytes : (xs : List ℕ) (at n : ℕ) → Bytes xs → Bytes (part xs at n)
+pub part-bytes : (xs : Bytes) (at n : ℕ) → EachByte xs → EachByte (part xs at n)
 part-bytes xs at n f k = go (ltb k n) refl
   where
     go : (t : Bool) → ltb k n ≡ t → getD (part xs at n) k 0 < 256
@@ -71,15 +72,15 @@ length-digits zero v = refl
 length-digits (suc n) v = length-append (digits n (v / 10)) ((v % 10 + code "0") ∷ []) ∙ rw (length-digits n (v / 10)) (add-one n)
 
 -- one digit more, written before those that stand from i on
-digit-at : (j v : ℕ) (l : List ℕ) → j < length l → digits (suc j) v ++ drop (suc j) l ≡ digits j (v / 10) ++ drop j (set l j (v % 10 + code "0"))
+digit-at : (j v : ℕ) (l : Bytes) → j < length l → digits (suc j) v ++ drop (suc j) l ≡ digits j (v / 10) ++ drop j (set l j (v % 10 + code "0"))
 unfolding digits
 digit-at j v l h =
     let d : ℕ = v % 10 + code "0" in
     let k : length (take j l) ≡ j = length-take-le j l (omega arith) in
     append-assoc (digits j (v / 10)) (d ∷ []) (drop (suc j) l)
-    ∙ ap (λ (r : List ℕ). digits j (v / 10) ++ r) (sym (drop-at (take j l) (d ∷ drop (suc j) l) j k) ∙ ap (drop j) (sym (set-split l j d h)))
+    ∙ ap (λ (r : Bytes). digits j (v / 10) ++ r) (sym (drop-at (take j l) (d ∷ drop (suc j) l) j k) ∙ ap (drop j) (sym (set-split l j d h)))
 
-pub digit-more : (i v : ℕ) (l : List ℕ) → 0 < i → i ≤ length l → digits i v ++ drop i l ≡ digits (i - 1) (v / 10) ++ drop (i - 1) (set l (i - 1) (v % 10 + code "0"))
+pub digit-more : (i v : ℕ) (l : Bytes) → 0 < i → i ≤ length l → digits i v ++ drop i l ≡ digits (i - 1) (v / 10) ++ drop (i - 1) (set l (i - 1) (v % 10 + code "0"))
 digit-more zero v l p h = absurd (not-suc-le-zero p)
 digit-more (suc j) v l p h =
     let e : suc j - 1 ≡ j = omega arith in

@@ -1,40 +1,41 @@
 -- Laws of specs/Part.antt: what a part and a splice have, and what a lent part is. Assumes nothing.
 use mathlib.Core.Path.{_≡_, refl, sym, ap, _∙_}
-use mathlib.Core.List.{List, [], _∷_, _++_, append-assoc, append-nil}
+use mathlib.Core.List.{[], _∷_, _++_, append-assoc, append-nil}
 use Prim.Native.Nat.{ℕ, zero, suc, _+_, _-_, _≤_}
 use native.Mathlib.Nat.{zero-add, add-zero, add-assoc, add-sub-cancel-left}
 use native.Mathlib.Omega.{arith}
 use native.Mathlib.Decide.{decLt}
 use lib.ListN.{length, getD, take, drop, length-append, length-take, length-drop, drop-of-length-le, take-append-drop}
 use lib.Seq.{length-take-le, drop-drop, take-at, drop-at, take-append-le, drop-append-le}
+use Rattle.octets.specs.Bytes.{Bytes}
 use Rattle.octets.specs.Part.{part, splice}
 
 -- ---- lengths
 
-pub length-part : (xs : List ℕ) (at n : ℕ) → at + n ≤ length xs → length (part xs at n) ≡ n
+pub length-part : (xs : Bytes) (at n : ℕ) → at + n ≤ length xs → length (part xs at n) ≡ n
 length-part xs at n h = length-take-le n (drop at xs) (simp length-drop (omega arith))
 
-pub length-splice : (d ys : List ℕ) (at : ℕ) → at + length ys ≤ length d → length (splice d at ys) ≡ length d
+pub length-splice : (d ys : Bytes) (at : ℕ) → at + length ys ≤ length d → length (splice d at ys) ≡ length d
 unfolding splice
 length-splice d ys at h = simp (length-append, length-take, length-drop) (omega arith)
 
 -- ---- what the borrow checker gives of a part that is lent from `at` on, n bytes long
 
-lent-length : (xs : List ℕ) (at n : ℕ) → at + n ≤ length xs → length (take (at + n - at) (drop at xs)) ≡ n
+lent-length : (xs : Bytes) (at n : ℕ) → at + n ≤ length xs → length (take (at + n - at) (drop at xs)) ≡ n
 lent-length xs at n h = rw add-sub-cancel-left (length-part xs at n h)
 
 -- it came back as ys
-pub lent-back : (d l ys : List ℕ) (at n : ℕ) → l ≡ ys → length ys ≡ n → take at d ++ (l ++ drop (at + n - at) (drop at d)) ≡ splice d at ys
+pub lent-back : (d l ys : Bytes) (at n : ℕ) → l ≡ ys → length ys ≡ n → take at d ++ (l ++ drop (at + n - at) (drop at d)) ≡ splice d at ys
 unfolding splice
 lent-back d l ys at n e f = rw (e, add-sub-cancel-left, drop-drop, ← f)
 
 -- it came back as what f has for its length
-pub lent-filled : (d l : List ℕ) (at n : ℕ) (f : ℕ → List ℕ) → ((k : ℕ) → length (f k) ≡ k) → at + n ≤ length d → l ≡ f (length (take (at + n - at) (drop at d))) → take at d ++ (l ++ drop (at + n - at) (drop at d)) ≡ splice d at (f n)
+pub lent-filled : (d l : Bytes) (at n : ℕ) (f : ℕ → Bytes) → ((k : ℕ) → length (f k) ≡ k) → at + n ≤ length d → l ≡ f (length (take (at + n - at) (drop at d))) → take at d ++ (l ++ drop (at + n - at) (drop at d)) ≡ splice d at (f n)
 lent-filled d l at n f size h e = lent-back d l (f n) at n (e ∙ ap f (lent-length d at n h)) (size n)
 
 -- ---- a part of bytes in which ys took the place of others, from `at` on
 
-module _ (d ys : List ℕ) (at : ℕ) (h : at + length ys ≤ length d) where
+module _ (d ys : Bytes) (at : ℕ) (h : at + length ys ≤ length d) where
   head-length : length (take at d) ≡ at
   head-length = length-take-le at d (omega arith)
 
@@ -50,7 +51,7 @@ module _ (d ys : List ℕ) (at : ℕ) (h : at + length ys ≤ length d) where
   pub part-within : (from n : ℕ) → from + n ≤ length ys → part (splice d at ys) (at + from) n ≡ part ys from n
   unfolding splice
   part-within from n l =
-      let rest : List ℕ = drop (at + length ys) d in
+      let rest : Bytes = drop (at + length ys) d in
       let there : drop (at + from) (take at d ++ (ys ++ rest)) ≡ drop from (ys ++ rest) =
       sym (drop-drop from at (take at d ++ (ys ++ rest))) ∙ ap (drop from) (drop-at (take at d) (ys ++ rest) at head-length) in
       let k : n ≤ length (drop from ys) = simp length-drop (omega arith) in
@@ -64,7 +65,7 @@ module _ (d ys : List ℕ) (at : ℕ) (h : at + length ys ≤ length d) where
       let k : n ≤ length (drop from (take at d)) = simp length-drop (omega (arith, head-length)) in
       let whole : d ≡ take at d ++ drop at d = sym (take-append-drop at d) in
       let e′ : drop from (take at d ++ drop at d) ≡ drop from (take at d) ++ drop at d = drop-append-le from (take at d) (drop at d) (omega (arith, head-length)) in
-      rw e (take-append-le n (drop from (take at d)) _ k ∙ sym (take-append-le n (drop from (take at d)) (drop at d) k) ∙ ap (take n) (sym e′) ∙ ap (λ (l : List ℕ). take n (drop from l)) (sym whole))
+      rw e (take-append-le n (drop from (take at d)) _ k ∙ sym (take-append-le n (drop from (take at d)) (drop at d) k) ∙ ap (take n) (sym e′) ∙ ap (λ (l : Bytes). take n (drop from l)) (sym whole))
 
   -- after it
   pub part-after : (from n : ℕ) → at + length ys ≤ from → part (splice d at ys) from n ≡ part d from n
@@ -83,18 +84,18 @@ module _ (d ys : List ℕ) (at : ℕ) (h : at + length ys ≤ length d) where
 -- ---- single bytes
 
 -- a byte is a part of one byte
-pub byte-part : (xs : List ℕ) (i : ℕ) → getD xs i 0 ≡ getD (part xs i 1) 0 0
+pub byte-part : (xs : Bytes) (i : ℕ) → getD xs i 0 ≡ getD (part xs i 1) 0 0
 byte-part [] zero = refl
 byte-part [] (suc i) = refl
 byte-part (x ∷ xs) zero = refl
 byte-part (x ∷ xs) (suc i) = byte-part xs i
 
 -- a byte where a part is the same is the same
-pub same-byte : (xs ys : List ℕ) (i : ℕ) → part xs i 1 ≡ part ys i 1 → getD xs i 0 ≡ getD ys i 0
+pub same-byte : (xs ys : Bytes) (i : ℕ) → part xs i 1 ≡ part ys i 1 → getD xs i 0 ≡ getD ys i 0
 same-byte xs ys i e = byte-part xs i ∙ ap (λ p. getD p 0 0) e ∙ sym (byte-part ys i)
 
 -- a byte that a splice does not cover
-pub byte-apart : (d ys : List ℕ) (at i : ℕ) → at + length ys ≤ length d → (at ≤ i → at + length ys ≤ i) → getD (splice d at ys) i 0 ≡ getD d i 0
+pub byte-apart : (d ys : Bytes) (at i : ℕ) → at + length ys ≤ length d → (at ≤ i → at + length ys ≤ i) → getD (splice d at ys) i 0 ≡ getD d i 0
 byte-apart d ys at i h outside =
     elim (decLt i at) [
       | yes b ↦ same-byte (splice d at ys) d i (part-before d ys at h i 1 (omega arith))
@@ -103,7 +104,7 @@ byte-apart d ys at i h outside =
 
 -- ---- a write right after another is one write
 
-pub splice-splice : (d ys zs : List ℕ) (at : ℕ) → at + (length ys + length zs) ≤ length d → splice (splice d at ys) (at + length ys) zs ≡ splice d at (ys ++ zs)
+pub splice-splice : (d ys zs : Bytes) (at : ℕ) → at + (length ys + length zs) ≤ length d → splice (splice d at ys) (at + length ys) zs ≡ splice d at (ys ++ zs)
 unfolding splice
 splice-splice d ys zs at h =
     let n : length (take at d ++ ys) ≡ at + length ys = front-length d ys at (omega arith) in
@@ -114,11 +115,11 @@ splice-splice d ys zs at h =
     rw (one, two) (simp append-assoc)
 
 -- a splice of nothing
-pub splice-none : (d : List ℕ) (at : ℕ) → splice d at [] ≡ d
+pub splice-none : (d : Bytes) (at : ℕ) → splice d at [] ≡ d
 unfolding splice
 splice-none d at = rw add-zero (take-append-drop at d)
 
 -- a splice of the whole
-pub splice-all : (d ys : List ℕ) → length ys ≡ length d → splice d 0 ys ≡ ys
+pub splice-all : (d ys : Bytes) → length ys ≡ length d → splice d 0 ys ≡ ys
 unfolding splice
 splice-all d ys e = rw (zero-add, drop-of-length-le d {i = length ys} (omega arith)) (append-nil ys)

@@ -1,4 +1,4 @@
--- Document 01's conventions: bytes, as a list of numbers below 256.
+-- Bytes are lists of numbers; whatever the numbers, the definitions give an answer.
 use Prim.Native.Nat.{ℕ}
 use mathlib.Core.List.{List}
 

@@ -1,9 +1,9 @@
 -- A text as the list of its bytes.
-use Prim.Native.Nat.{ℕ}
 use Prim.Native.Char.{code}
 use Prim.Native.String.{String}
-use mathlib.Core.List.{List, [], _∷_}
+use mathlib.Core.List.{[], _∷_}
+use Rattle.octets.specs.Bytes.{Bytes}
 
-unfoldable pub text : String → List ℕ
+unfoldable pub text : String → Bytes
 text String.[] = []
 text (String._∷_ c s) = code c ∷ text s

@@ -13,8 +13,7 @@ use Rattle.octets.proofs.SearchLaws.{first-most}
 use Rattle.actions.specs.declared.Action.{Action}
 use Rattle.actions.specs.declared.Checked.{Checked}
 use Rattle.actions.specs.declared.Checked.the-variants as checked
-use Rattle.actions.specs.Actions.{isFull, isNew}
-use Rattle.actions.specs.Statuses.{nextStatus}
+use Rattle.actions.specs.Actions.{isFull, isNew, nextStatus}
 use Rattle.notional.specs.Masking.{largestCap}
 use Rattle.terms.specs.Terms.{termsOf}
 use Rattle.ledger.specs.Layout.{u32, utiSize, rowStart}
@@ -31,7 +30,7 @@ use Rattle.repository.specs.declared.decide.Acceptance.{Acceptance}
 use Rattle.repository.specs.declared.decide.Decision.{Decision}
 use Rattle.repository.specs.declared.decide.Decision.the-variants.{Refused, Value}
 use Rattle.repository.specs.Answers.{submissionAnswer}
-use Rattle.repository.specs.Decision.{acceptanceIn, decided, decidedOn, decision, decisionAnswer, Fitting}
+use Rattle.repository.specs.Decision.{acceptanceIn, decidedOn, decision, decisionAnswer, Fitting}
 
 -- the value that was looked up fits the row
 pub uti-fits : (u v : Bytes) → length v ≤ utiSize → u ≡ v → length u ≤ utiSize

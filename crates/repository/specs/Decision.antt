@@ -8,15 +8,14 @@ use Rattle.octets.specs.Choice.{choose}
 use Rattle.actions.specs.declared.Action.{Action}
 use Rattle.actions.specs.declared.Checked.{Checked}
 use Rattle.actions.specs.declared.Checked.the-variants as checked
-use Rattle.actions.specs.Actions.{isFull, writesLine}
-use Rattle.actions.specs.Statuses.{nextStatus}
+use Rattle.actions.specs.Actions.{isFull, writesLine, nextStatus}
 use Rattle.notional.specs.Masking.{largestCap}
 use Rattle.rules.specs.Findings.{firstBroken, fromRule}
 use Rattle.ledger.specs.Layout.{u32, utiSize, rowStart, lineSize, identifierLimit}
 use Rattle.ledger.specs.declared.header.Header.{Header}
 use Rattle.ledger.specs.declared.search.Swap.{Swap}
 use Rattle.ledger.specs.Header.{capsIn, headerOf}
-use Rattle.ledger.specs.Rows.{swapTime, swapIn}
+use Rattle.ledger.specs.Rows.{swapIn}
 use Rattle.submission.specs.Opening.{Limits}
 use Rattle.submission.specs.Lent.{Lent}
 use Rattle.submission.specs.Submission.{swapOf, actionIn, capOn, swapRules, rulesIn, rulesOn, verdictOn, placeFor}

@@ -1,16 +1,9 @@
 // What a message comes to: rules 3 to 18 in checking order. Reads only.
 ghost use Prim.Native.Nat.{ℕ};
-ghost use mathlib.Core.Bool.{not};
 ghost use mathlib.Core.Path.{_≡_};
-ghost use lib.Dec.{eqb};
 ghost use Rattle.octets.specs.Bytes.{Bytes};
-ghost use Rattle.octets.specs.Choice.{choose, both};
-ghost use Rattle.octets.specs.Same.{sameBytes};
-ghost use Rattle.message.specs.Values.{value};
-ghost use Rattle.actions.specs.Actions.{isFull, isNew, writesLine};
-ghost use Rattle.actions.specs.Statuses.{repeatsTime};
-ghost use Rattle.elements.specs.Codes.{executionTime};
-ghost use Rattle.ledger.specs.Layout.{identifierLimit};
+ghost use Rattle.octets.specs.Choice.{choose};
+ghost use Rattle.actions.specs.Actions.{isFull};
 ghost use Rattle.ledger.specs.declared.search.Swap.{Swap as Known};
 ghost use Rattle.rules.specs.Verdicts.{layoutWrong};
 ghost use Rattle.submission.specs.Verdicts.{tapeShort, rowWrong, notAdmitted, otherTime, ledgerFull, identifiersSpent};

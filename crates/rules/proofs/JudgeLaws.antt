@@ -4,6 +4,7 @@ use mathlib.Core.Bool.{false}
 use mathlib.Core.Path.{_≡_, refl, sym, ap, _∙_}
 use mathlib.Core.List.{List}
 use lib.Dec.{eqb}
+use Rattle.octets.specs.Bytes.{Bytes}
 use Rattle.actions.specs.declared.Action.{Action}
 use Rattle.actions.specs.declared.Checked.{Checked}
 use Rattle.actions.specs.declared.Checked.the-variants.{Fault, Value}
@@ -32,7 +33,7 @@ broken-by a code (broken d) e =
     let z : Fault d ≡ Fault code = e in
     cc
 
-module _ (n : ℕ) (a : Action) (m : List ℕ) where
+module _ (n : ℕ) (a : Action) (m : Bytes) where
   abbrev rs : List Rule
   rs = laidRules (Value a) m
 

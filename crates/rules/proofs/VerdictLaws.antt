@@ -8,6 +8,7 @@ use mathlib.Core.List.{List, [], _∷_}
 use lib.Dec.{eqb, lit<}
 use borrow.Author.Tests.{eqb-true}
 use Prim.Native.String.{String}
+use Rattle.octets.specs.Bytes.{Bytes}
 use Rattle.octets.specs.Choice.{choose, both}
 use Rattle.octets.specs.Text.{text}
 use Rattle.octets.specs.Same.{sameBytes, beside}
@@ -26,21 +27,21 @@ use Rattle.rules.specs.Rules.{actionIn, atFault, numberOf, finding, rule
 use Rattle.rules.proofs.FindingLaws.{unused, distinct, namedBy, names-none, broken-first, first-broken, all-passed, none-broken, lowest-broken}
 
 -- no two rules have the same number, and none has 0
-pub differ : (r : Checked) (longest : ℕ) (m : List ℕ) → distinct (rulesFor r longest m) ≡ true
+pub differ : (r : Checked) (longest : ℕ) (m : Bytes) → distinct (rulesFor r longest m) ≡ true
 unfolding rulesFor unused distinct rulesOf
 differ (Fault code) longest m = refl
 differ (Value a) longest m = refl
 
-pub numbers-differ : (longest : ℕ) (m : List ℕ) → distinct (rules longest m) ≡ true
+pub numbers-differ : (longest : ℕ) (m : Bytes) → distinct (rules longest m) ≡ true
 numbers-differ longest m = differ (actionOf (value actionCode m)) longest m
 
 -- the verdict is n, with element e, exactly where the rule with number n is broken, names e, and no earlier one is broken
-pub verdict-exactly : (longest : ℕ) (m : List ℕ) (n e : ℕ) → 0 < n → (verdict longest m ≡ (n, e)) ↔ FirstBroken (rules longest m) n e
+pub verdict-exactly : (longest : ℕ) (m : Bytes) (n e : ℕ) → 0 < n → (verdict longest m ≡ (n, e)) ↔ FirstBroken (rules longest m) n e
 unfolding verdict
 verdict-exactly longest m n e p = (broken-first (rules longest m) n e (numbers-differ longest m) p, first-broken (rules longest m) n e)
 
 -- the verdict is 0 exactly where every rule is passed; it names no element then
-pub accepted-exactly : (longest : ℕ) (m : List ℕ) → (verdict longest m .0 ≡ 0 → AllPassed (rules longest m)) × (AllPassed (rules longest m) → verdict longest m ≡ (0, 0))
+pub accepted-exactly : (longest : ℕ) (m : Bytes) → (verdict longest m .0 ≡ 0 → AllPassed (rules longest m)) × (AllPassed (rules longest m) → verdict longest m ≡ (0, 0))
 unfolding verdict
 accepted-exactly longest m = (all-passed (rules longest m) (numbers-differ longest m), none-broken (rules longest m))
 
@@ -57,7 +58,7 @@ allRead : List (String × Checked) → Bool
 allRead [] = true
 allRead (c ∷ cs) = both (isRead (c .1)) (allRead cs)
 
-fault-code : (table : List (String × Checked)) (v : List ℕ) (e : ℕ) → allRead table ≡ true → beside table (Fault actionCode) v ≡ Fault e → e ≡ actionCode
+fault-code : (table : List (String × Checked)) (v : Bytes) (e : ℕ) → allRead table ≡ true → beside table (Fault actionCode) v ≡ Fault e → e ≡ actionCode
 unfolding beside allRead
 fault-code [] v e all f = cc
 fault-code (c ∷ cs) v e all f =
@@ -70,7 +71,7 @@ fault-code (c ∷ cs) v e all f =
         absurd (omega arith)
     by false r is g rest = rest g
 
-module _ (longest : ℕ) (m : List ℕ) (a : Action) (read : actionOf (value actionCode m) ≡ Value a) where
+module _ (longest : ℕ) (m : Bytes) (a : Action) (read : actionOf (value actionCode m) ≡ Value a) where
   -- a rule whose number is the verdict is broken
   broken-at : (n e : ℕ) → 0 < n → verdict longest m ≡ (n, e) → findingOf n (rulesFor (Value a) longest m) ≡ broken e
   unfolding verdict
@@ -92,7 +93,7 @@ abbrev pub namingNumbers : List ℕ
 namingNumbers = noAction ∷ neededMissing ∷ notTaken ∷ formBroken ∷ dueMissing ∷ []
 
 -- under every other one the element is 0
-pub others-name-none : (longest : ℕ) (m : List ℕ) → isOneOf namingNumbers (verdict longest m .0) ≡ false → verdict longest m .1 ≡ 0
+pub others-name-none : (longest : ℕ) (m : Bytes) → isOneOf namingNumbers (verdict longest m .0) ≡ false → verdict longest m .1 ≡ 0
 unfolding verdict namedBy isOneOf rulesFor rulesOf
 others-name-none longest m other = names-none namingNumbers (rules longest m) (by (actionIn m)) other
   where
@@ -101,16 +102,16 @@ others-name-none longest m other = names-none namingNumbers (rules longest m) (b
     by (Value a) = refl
 
 -- 6: the element is the action's
-pub action-at-fault : (v : List ℕ) (e : ℕ) → finding (actionOf v) ≡ broken e → e ≡ actionCode
+pub action-at-fault : (v : Bytes) (e : ℕ) → finding (actionOf v) ≡ broken e → e ≡ actionCode
 unfolding actionOf allRead
 action-at-fault v e f = fault-code actionCodes v e refl (of-finding (actionOf v) e f)
 
-pub action-names-itself : (longest : ℕ) (m : List ℕ) (e : ℕ) → verdict longest m ≡ (noAction, e) → e ≡ actionCode
+pub action-names-itself : (longest : ℕ) (m : Bytes) (e : ℕ) → verdict longest m ≡ (noAction, e) → e ≡ actionCode
 unfolding verdict rulesFor findingOf
 action-names-itself longest m e v = action-at-fault (value actionCode m) e (broken-first (rules longest m) noAction e (numbers-differ longest m) (lit< tt) v .0)
 
 -- the answer of judging has the verdict's number and element
-pub judged-verdict : (longest : ℕ) (m : List ℕ) → verdictOf (judged longest m) ≡ verdict longest m
+pub judged-verdict : (longest : ℕ) (m : Bytes) → verdictOf (judged longest m) ≡ verdict longest m
 unfolding judged
 judged-verdict longest m = by (actionOf (value actionCode m)) (eqb (verdict longest m .0) 0) refl
   where

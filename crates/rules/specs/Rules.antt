@@ -5,6 +5,7 @@ use mathlib.Core.Path.{_≡_}
 use mathlib.Core.List.{List, [], _∷_}
 use lib.ListN.{length}
 use lib.Dec.{ltb, eqb}
+use Rattle.octets.specs.Bytes.{Bytes}
 use Rattle.octets.specs.Choice.{choose, both, either}
 use Rattle.octets.specs.Text.{text}
 use Rattle.numbers.specs.Numbers.{wholeOf, decimalsOf, unsignedOf}
@@ -37,14 +38,14 @@ answerOf a passed = checked.Value a
 answerOf a (broken code) = checked.Fault code
 
 -- an element is at fault: it is needed and missing (7), there and not taken (8), there in a broken form (9), or due under its condition and missing (11)
-abbrev pub atFault : Check → Action → List ℕ → ℕ → Bool
+abbrev pub atFault : Check → Action → Bytes → ℕ → Bool
 atFault Needed a m code = both (needs a code) (not (isThere code m))
 atFault Taken a m code = both (isThere code m) (not (takes a code))
 atFault Formed a m code = both (isThere code m) (not (hasForm code (value code m)))
 atFault Due a m code = both (isDue code m) (not (isThere code m))
 
 -- check 11 is handed what the conditions ask of the message, the others nothing
-abbrev pub FactsFor : Check → Facts → List ℕ → Type 0
+abbrev pub FactsFor : Check → Facts → Bytes → Type 0
 FactsFor Needed f m = Unit {0}
 FactsFor Taken f m = Unit {0}
 FactsFor Formed f m = Unit {0}
@@ -64,24 +65,24 @@ notationThreeDigits = 11
 abbrev pub notationThreeDecimals : ℕ
 notationThreeDecimals = 10
 
-unfoldable pub longPrice : List ℕ → Bool
+unfoldable pub longPrice : Bytes → Bool
 longPrice v = either (ltb notationThreeDigits (length (wholeOf v) + length (decimalsOf v))) (ltb notationThreeDecimals (length (decimalsOf v)))
 
-unfoldable pub priceTooLong : List ℕ → Bool
+unfoldable pub priceTooLong : Bytes → Bool
 priceTooLong m = both (isPackage m) (both (notationIs (text "3") m) (longPrice (unsignedOf (value packagePrice m))))
 
 -- dates and times of a full message are out of order (13)
-abbrev pub elementBefore : List ℕ → ℕ → ℕ → Bool
+abbrev pub elementBefore : Bytes → ℕ → ℕ → Bool
 elementBefore m a b = before (value a m) (value b m)
 
-unfoldable pub outOfOrder : Action → List ℕ → Bool
+unfoldable pub outOfOrder : Action → Bytes → Bool
 outOfOrder a m =
     both (isFull a)
     (either (elementBefore m expirationDate effectiveDate)
     (either (elementBefore m settlementDate expirationDate) (elementBefore m reportingTime executionTime)))
 
 -- rules 7 to 13, for the message's action
-unfoldable pub rulesOf : Action → List ℕ → List Rule
+unfoldable pub rulesOf : Action → Bytes → List Rule
 rulesOf a m =
     naming neededMissing (lowest (atFault Needed a m))
     ∷ naming notTaken (lowest (atFault Taken a m))
@@ -93,27 +94,27 @@ rulesOf a m =
     ∷ []
 
 -- where 6 is broken there is no action, and nothing is judged after it
-abbrev pub afterAction : Checked → List ℕ → List Rule
+abbrev pub afterAction : Checked → Bytes → List Rule
 afterAction (checked.Fault code) m = []
 afterAction (checked.Value a) m = rulesOf a m
 
 -- the rules after the layout's, by what the action's element says
-abbrev pub laidRules : Checked → List ℕ → List Rule
+abbrev pub laidRules : Checked → Bytes → List Rule
 laidRules action m = naming noAction (finding action) ∷ afterAction action m
 
 -- the rules in checking order
-unfoldable pub rulesFor : Checked → ℕ → List ℕ → List Rule
+unfoldable pub rulesFor : Checked → ℕ → Bytes → List Rule
 rulesFor action longest m = test layoutWrong (not (hasLayout longest m)) ∷ laidRules action m
 
 -- what the value of the action's element says
-abbrev pub actionIn : List ℕ → Checked
+abbrev pub actionIn : Bytes → Checked
 actionIn m = actionOf (value actionCode m)
 
-abbrev pub rules : ℕ → List ℕ → List Rule
+abbrev pub rules : ℕ → Bytes → List Rule
 rules longest m = rulesFor (actionIn m) longest m
 
 -- verdict and element of a message alone; 0 and 0 where no rule from 5 to 13 is broken
-unfoldable pub verdict : ℕ → List ℕ → ℕ × ℕ
+unfoldable pub verdict : ℕ → Bytes → ℕ × ℕ
 verdict longest m = firstBroken (rules longest m)
 
 -- what judging answers: a refusal with verdict and element, or the action of a message that no rule refuses
@@ -121,11 +122,11 @@ abbrev pub conclude : ℕ × ℕ → Checked → Judged
 conclude v (checked.Fault code) = answer.Refused (v .0) (v .1)
 conclude v (checked.Value a) = choose (eqb (v .0) 0) (answer.Value a) (answer.Refused (v .0) (v .1))
 
-unfoldable pub judged : ℕ → List ℕ → Judged
+unfoldable pub judged : ℕ → Bytes → Judged
 judged longest m = conclude (verdict longest m) (actionIn m)
 
 -- what judging answers where the layout is right and no rule before number n is broken
-unfoldable pub judgedFrom : ℕ → Checked → List ℕ → Judged
+unfoldable pub judgedFrom : ℕ → Checked → Bytes → Judged
 judgedFrom n action m = conclude (firstBroken (fromRule n (laidRules action m))) action
 
 -- what a check says under its number: a refusal that names the element at fault, or the action

@@ -5,7 +5,7 @@ use mathlib.Core.Path.{_≡_, refl, sym, ap, _∙_}
 use native.Mathlib.Omega.{arith}
 use lib.ListN.{length}
 use lib.Dec.{eqb, leb, ltb, lit≤}
-use borrow.Author.Tests.{eqb-false, ne-eqb, leb-true, ltb-true, ltb-false}
+use borrow.Author.Tests.{eqb-false, ne-eqb, leb-true, ltb-true}
 use Rattle.octets.specs.Bytes.{Bytes}
 use Rattle.octets.specs.Choice.{both}
 use Rattle.octets.proofs.ChoiceLaws.{both-first, both-second, both-false, not-not}
@@ -14,8 +14,8 @@ use Rattle.values.specs.Run.{within, runOf}
 use Rattle.actions.specs.declared.Action.{Action}
 use Rattle.actions.specs.declared.Checked.{Checked}
 use Rattle.actions.specs.declared.Checked.the-variants.{Fault, Value}
-use Rattle.actions.specs.Actions.{isNew, writesLine}
-use Rattle.actions.specs.Statuses.{live, ported, unknown, noStep, nextStatus}
+use Rattle.actions.specs.Actions.{isNew, writesLine, nextStatus}
+use Rattle.actions.specs.Statuses.{live, ported, unknown, noStep}
 use Rattle.actions.proofs.KindLaws.{old-unknown, new-unknown}
 use Rattle.elements.specs.Codes.{uti}
 use Rattle.message.specs.Values.{isThere}

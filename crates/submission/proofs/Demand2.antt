@@ -11,30 +11,28 @@ use Rattle.octets.specs.Bytes.{Bytes}
 use Rattle.octets.specs.Choice.{choose, both}
 use Rattle.octets.specs.Part.{splice}
 use Rattle.octets.specs.Fields.{Placed}
-use Rattle.octets.specs.Same.{sameBytes}
 use Rattle.octets.proofs.ChoiceLaws.{both-first, both-second, both-false, not-not}
 use Rattle.octets.proofs.SameLaws.{same-true, same-refl}
 use Rattle.octets.proofs.PartLaws.{length-splice, byte-apart}
 use Rattle.octets.proofs.FieldRun.{front-placed, front-later}
 use Rattle.values.specs.Run.{within}
-use Rattle.message.specs.Values.{value}
 use Rattle.terms.specs.Terms.{termsSize}
 use Rattle.actions.specs.declared.Action.{Action}
 use Rattle.actions.specs.declared.Action.the-variants.{Newt}
 use Rattle.actions.specs.declared.Checked.{Checked}
 use Rattle.actions.specs.declared.Checked.the-variants.{Value}
-use Rattle.actions.specs.Actions.{isFull, isNew, writesLine}
-use Rattle.actions.specs.Statuses.{live, ported, noStep, nextStatus, repeatsTime}
+use Rattle.actions.specs.Actions.{isFull, isNew, writesLine, repeatsTime, nextStatus}
+use Rattle.actions.specs.Statuses.{live, ported, noStep}
 use Rattle.actions.proofs.KindLaws.{is-newt, old-if-repeats}
-use Rattle.elements.specs.Codes.{uti, executionTime}
+use Rattle.elements.specs.Codes.{uti}
 use Rattle.elements.specs.Forms.{hasForm}
 use Rattle.rules.specs.Verdicts.{formBroken}
 use Rattle.rules.specs.Findings.{passed, broken, Rule, test, naming, firstBroken, AllPassed}
 use Rattle.rules.specs.Rules.{rulesFor, rulesOf, verdict}
 use Rattle.rules.proofs.FindingLaws.{broken-first, first-broken, none-broken, passed-then}
 use Rattle.rules.proofs.VerdictLaws as message
-use Rattle.ledger.specs.Layout.{u32, u64, rowsAt, nextAt, lengthAt, identifierAt, headerSize, rowSize, rowStart, shortestLedger, lineSize, identifierLimit}
-use Rattle.ledger.specs.Header.{rowsInUse, nextIdentifier, capacityIn, capsIn, areCaps, capacityFor, headerRight, headerOf}
+use Rattle.ledger.specs.Layout.{u32, u64, rowsAt, nextAt, lengthAt, identifierAt, headerSize, rowSize, rowStart, shortestLedger, lineSize}
+use Rattle.ledger.specs.Header.{rowsInUse, nextIdentifier, capsIn, areCaps, capacityFor, headerRight, headerOf}
 use Rattle.ledger.specs.Rows.{rowAt, statusOf, identifierOf, storedTerms, storedTime, isKnown, swapRow, swapStatus, swapIdentifier, swapTime, swapIn, newRow, rowAfter}
 use Rattle.ledger.specs.Line.{lineFields, line}
 use Rattle.ledger.proofs.NewHeader as new

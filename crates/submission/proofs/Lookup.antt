@@ -3,7 +3,6 @@ use Prim.Native.Nat.{ℕ, suc, _+_, _^_, _<_, _≤_}
 use mathlib.Core.Bool.{Bool, true, false}
 use mathlib.Core.Path.{_≡_, refl, sym, ap, _∙_, subst}
 use mathlib.Core.Logic.{_↔_}
-use mathlib.Core.List.{List}
 use native.Mathlib.Numerals.{add-one}
 use native.Mathlib.Nat.{zero-add}
 use native.Mathlib.Omega.{arith}
@@ -22,14 +21,12 @@ use Rattle.octets.proofs.PartLaws.{length-part}
 use Rattle.terms.specs.Terms.{termsSize}
 use Rattle.terms.proofs.TermLaws.{length-terms}
 use Rattle.actions.specs.declared.Action.{Action}
-use Rattle.actions.specs.declared.Action.the-variants.{Newt}
-use Rattle.actions.specs.Actions.{isFull, isNew, writesLine}
-use Rattle.actions.specs.Statuses.{nextStatus}
-use Rattle.actions.proofs.KindLaws.{is-newt, old-unless-full}
+use Rattle.actions.specs.Actions.{isFull, isNew, writesLine, nextStatus}
+use Rattle.actions.proofs.KindLaws.{old-unless-full}
 use Rattle.ledger.specs.declared.header.Caps.{Caps}
 use Rattle.ledger.specs.Layout.{u32, lengthAt, utiAt, utiSize, termsAt, headerSize, rowSize, rowStart}
 use Rattle.ledger.specs.Header.{rowsInUse, nextIdentifier, capacityIn, capsIn}
-use Rattle.ledger.specs.Rows.{rowAt, storedTerms, holdsUti, placeIn, placeOf, isKnown, swapRow, swapStatus, newRow, rowAfter}
+use Rattle.ledger.specs.Rows.{rowAt, storedTerms, holdsUti, placeIn, placeOf, isKnown, swapRow, swapStatus, newRow}
 use Rattle.ledger.proofs.RowLaws as row
 use Rattle.ledger.proofs.RightHeader.{rows-fit, capacity-most}
 use Rattle.ledger.proofs.RowAfterLaws.{length-row-after}
@@ -161,11 +158,8 @@ module _ {largest : ℕ} {l m : Bytes} {a : Action} (f : Fits largest l m a) (sm
   unfolding rowFor
   new-row-holds e v =
       let r : rowAt (ledgerFor a l m) (rowsInUse l) ≡ rowFor a l m = ap (rowAt (ledgerFor a l m)) (sym (new-place e)) ∙ row-written in
-      let is : rowFor a l m ≡ newRow (nextStatus a (swapStatus l (swapOf m))) (swapOf m) (nextIdentifier l) (termsFor a l m) = by a (is-newt a e) in
+      let is : rowFor a l m ≡ newRow (nextStatus a (swapStatus l (swapOf m))) (swapOf m) (nextIdentifier l) (termsFor a l m) = rw e in
       rw (r, is) (new-holds _ (swapOf m) (nextIdentifier l) (termsFor a l m) (f .uti) v)
-    where
-      by : (b : Action) → b ≡ Newt → rowAfter b (nextStatus a (swapStatus l (swapOf m))) (swapOf m) (nextIdentifier l) (termsFor a l m) (rowAt l (placeFor a l m)) ≡ newRow (nextStatus a (swapStatus l (swapOf m))) (swapOf m) (nextIdentifier l) (termsFor a l m)
-      by b g = rw g
 
   -- the rows in use before hold what they held
   new-holds-before : isNew a ≡ true → (v : Bytes) (j : ℕ) → j < rowsInUse l → holdsUti v (rowAt (ledgerFor a l m) j) ≡ holdsUti v (rowAt l j)

@@ -17,7 +17,7 @@ use Rattle.actions.specs.declared.Checked.{Checked}
 use Rattle.actions.specs.declared.Checked.the-variants.{Fault, Value}
 use Rattle.actions.specs.Actions.{actionOf, isFull, writesLine}
 use Rattle.ledger.specs.declared.header.Caps.{Caps}
-use Rattle.ledger.specs.Line.{lineFields, line}
+use Rattle.ledger.specs.Line.{line}
 use Rattle.submission.specs.Opening.{Limits}
 use Rattle.submission.specs.Submission.{swapOf, actionIn, maskedTerms}
 use Rattle.submission.specs.History.{Call, messageOf, answerTo, ledgerAfter, hasAction, ofKind, publishes, Judgement, judgements}
@@ -103,7 +103,7 @@ same-earlier caps u v (e ∷ es) (f ∷ fs) p n =
 -- ---- one line
 
 line-shown : (r : Checked) (i p : ℕ) (m n terms : Bytes) → SameShown m n → lineBy r i p m terms ≡ lineBy r i p n terms
-unfolding line lineFields
+unfolding line
 line-shown (Fault code) i p m n terms s = refl
 line-shown (Value a) i p m n terms s = rw (s .0, s .1, s .2)
 

@@ -20,7 +20,7 @@ use Rattle.ledger.specs.declared.header.Caps.{Caps}
 use Rattle.ledger.specs.Layout.{u32, utiSize, lineSize}
 use Rattle.ledger.specs.Header.{nextIdentifier, capsIn}
 use Rattle.ledger.specs.Rows.{rowAt, identifierOf, storedTerms, isKnown, swapRow, swapIdentifier}
-use Rattle.ledger.specs.Line.{lineFields, line}
+use Rattle.ledger.specs.Line.{line}
 use Rattle.ledger.proofs.RowFields.{after-identifier, after-terms}
 use Rattle.submission.specs.Opening.{Limits}
 use Rattle.submission.specs.Submission.{swapOf, actionIn, maskedTerms, termsFor, placeFor, rowFor, ledgerFor, lineFor}
@@ -40,7 +40,7 @@ pub record Holds (caps : Caps) (l : Bytes) (earlier : List Bytes) : Type 0 where
 
 -- NEWT shows no previous identifier
 new-line : (a : Action) (i p q : ℕ) (m terms : Bytes) → isNew a ≡ true → line a i p m terms ≡ line a i q m terms
-unfolding line lineFields
+unfolding line
 new-line a i p q m terms e = rw e
 
 module _ {largest : ℕ} (small : largest < 256 ^ u32) {caps : Caps} {l m : Bytes} {earlier : List Bytes} (h : Holds caps l earlier) {a : Action} (reads : actionIn m ≡ Value a) (f : Fits largest l m a) where

@@ -1,5 +1,5 @@
 -- Document 01, 'Verdict numbers' and 'Misreadings we have met': which calls answer an identifier and which one, by the number of lines published since opening; calls that write nothing.
-use Prim.Native.Nat.{ℕ, suc, _^_, _<_}
+use Prim.Native.Nat.{suc, _^_, _<_}
 use mathlib.Core.Bool.{true, false}
 use mathlib.Core.Path.{_≡_}
 use mathlib.Core.Logic.{_↔_}

@@ -3,7 +3,7 @@ use Prim.Native.Nat.{ℕ, _+_, _-_, _^_, _<_, _≤_}
 use mathlib.Core.Bool.{true, false}
 use mathlib.Core.Path.{_≡_}
 use mathlib.Core.Logic.{_↔_}
-use mathlib.Core.List.{List, map}
+use mathlib.Core.List.{map}
 use lib.ListN.{length, getD, drop}
 use Rattle.octets.specs.Bytes.{Bytes}
 use Rattle.octets.specs.Choice.{choose}
@@ -12,8 +12,8 @@ use Rattle.octets.specs.Fields.{Placed}
 use Rattle.message.specs.Values.{value}
 use Rattle.actions.specs.declared.Action.{Action}
 use Rattle.actions.specs.declared.Checked.the-variants.{Value}
-use Rattle.actions.specs.Actions.{isFull, isNew, writesLine}
-use Rattle.actions.specs.Statuses.{live, ported, noStep, nextStatus, repeatsTime}
+use Rattle.actions.specs.Actions.{isFull, isNew, writesLine, repeatsTime, nextStatus}
+use Rattle.actions.specs.Statuses.{live, ported, noStep}
 use Rattle.elements.specs.Codes.{uti, executionTime}
 use Rattle.elements.specs.Forms.{hasForm}
 use Rattle.rules.specs.Verdicts.{formBroken}

@@ -13,8 +13,8 @@ use Rattle.message.specs.Values.{value}
 use Rattle.actions.specs.declared.Action.{Action}
 use Rattle.actions.specs.declared.Checked.{Checked}
 use Rattle.actions.specs.declared.Checked.the-variants.{Fault, Value}
-use Rattle.actions.specs.Actions.{isFull, isNew, writesLine}
-use Rattle.actions.specs.Statuses.{live, ported, noStep, nextStatus, repeatsTime}
+use Rattle.actions.specs.Actions.{isFull, isNew, writesLine, repeatsTime, nextStatus}
+use Rattle.actions.specs.Statuses.{live, ported, noStep}
 use Rattle.elements.specs.Codes.{uti, executionTime, assetClass}
 use Rattle.terms.specs.Terms.{termsOf}
 use Rattle.rules.specs.Findings.{Rule, test, firstBroken}

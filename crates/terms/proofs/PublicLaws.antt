@@ -2,7 +2,8 @@
 use Prim.Native.Nat.{ℕ}
 use mathlib.Core.Bool.{true}
 use mathlib.Core.Path.{_≡_, refl, ap₂}
-use mathlib.Core.List.{List, []}
+use mathlib.Core.List.{[]}
+use Rattle.octets.specs.Bytes.{Bytes}
 use Rattle.octets.specs.Choice.{choose}
 use Rattle.message.specs.Values.{value}
 use Rattle.elements.specs.Codes.{executionTime, effectiveDate, expirationDate, cleared, nonStandardizedTerm, blockElection, largeNotionalElection, packageIndicator, packagePrice, priceNotation, priceCurrency, notionalAmount, notionalCurrency, settlementLocation, assetClass}
@@ -10,10 +11,10 @@ use Rattle.elements.specs.Conditions.{isPackage, notationIs, factsOf, met, kept
 use Rattle.elements.specs.Table.{elementOf}
 use Rattle.notional.specs.Amount.{amount}
 use Rattle.notional.specs.Masking.{over, shown}
-use Rattle.terms.specs.Terms.{dateFields, truthFields, priceFields, notionalFields, termFields, termsOf}
+use Rattle.terms.specs.Terms.{termsOf}
 use Rattle.terms.specs.Public.{isPublicTerm, Agree}
 
-module _ (m₁ m₂ : List ℕ) (same : Agree m₁ m₂) where
+module _ (m₁ m₂ : Bytes) (same : Agree m₁ m₂) where
   -- the conditions are about public elements
   facts-same : factsOf m₁ ≡ factsOf m₂
   unfolding factsOf isPackage notationIs elementOf isPublicTerm
@@ -21,15 +22,15 @@ module _ (m₁ m₂ : List ℕ) (same : Agree m₁ m₂) where
 
   kept-same : (code : ℕ) → isPublicTerm code ≡ true → kept code m₁ ≡ kept code m₂
   unfolding kept
-  kept-same code e = ap₂ (λ f (v : List ℕ). choose (met (elementOf code .shown) f) v []) facts-same (same code e)
+  kept-same code e = ap₂ (λ f (v : Bytes). choose (met (elementOf code .shown) f) v []) facts-same (same code e)
 
 -- the notional amount has no condition
-amount-kept : (m : List ℕ) → kept notionalAmount m ≡ value notionalAmount m
+amount-kept : (m : Bytes) → kept notionalAmount m ≡ value notionalAmount m
 unfolding kept elementOf
 amount-kept m = refl
 
-pub terms-public : (cap₁ cap₂ : ℕ) (m₁ m₂ : List ℕ) → Agree m₁ m₂ → shown cap₁ (amount (value notionalAmount m₁)) ≡ shown cap₂ (amount (value notionalAmount m₂)) → over cap₁ (amount (value notionalAmount m₁)) ≡ over cap₂ (amount (value notionalAmount m₂)) → termsOf cap₁ m₁ ≡ termsOf cap₂ m₂
-unfolding termsOf termFields dateFields truthFields priceFields notionalFields elementOf isPublicTerm
+pub terms-public : (cap₁ cap₂ : ℕ) (m₁ m₂ : Bytes) → Agree m₁ m₂ → shown cap₁ (amount (value notionalAmount m₁)) ≡ shown cap₂ (amount (value notionalAmount m₂)) → over cap₁ (amount (value notionalAmount m₁)) ≡ over cap₂ (amount (value notionalAmount m₂)) → termsOf cap₁ m₁ ≡ termsOf cap₂ m₂
+unfolding termsOf elementOf isPublicTerm
 terms-public cap₁ cap₂ m₁ m₂ same units plus =
     let k = kept-same m₁ m₂ same in
     rw (

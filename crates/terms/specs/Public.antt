@@ -2,7 +2,7 @@
 use Prim.Native.Nat.{ℕ}
 use mathlib.Core.Bool.{Bool, true, false}
 use mathlib.Core.Path.{_≡_}
-use mathlib.Core.List.{List}
+use Rattle.octets.specs.Bytes.{Bytes}
 use Rattle.octets.specs.Choice.{both}
 use Rattle.message.specs.Values.{value}
 use Rattle.elements.specs.declared.table.Kinds.{Kinds}
@@ -26,5 +26,5 @@ unfoldable pub isPublicTerm : ℕ → Bool
 isPublicTerm code = both (isFullOnly (elementOf code .taken)) (isShown (elementOf code .public))
 
 -- two messages have the same values of these elements
-abbrev pub Agree : List ℕ → List ℕ → Type 0
+abbrev pub Agree : Bytes → Bytes → Type 0
 Agree m₁ m₂ = (code : ℕ) → isPublicTerm code ≡ true → value code m₁ ≡ value code m₂

@@ -1,87 +1,108 @@
--- Document 01, 'The tape line': the masked terms, what a full message's elements and a cap put into a line from 52 up to the newline.
-use Prim.Native.Nat.{ℕ, _-_}
+-- Document 01, 'The tape line': the masked terms, what a full message's elements and a cap put into a line between the event time and the newline.
+use Prim.Native.Nat.{ℕ, _+_}
 use mathlib.Core.Bool.{Bool}
 use mathlib.Core.List.{List, [], _∷_, _++_}
+use Rattle.octets.specs.Bytes.{Bytes}
 use Rattle.octets.specs.Choice.{choose}
 use Rattle.octets.specs.Text.{text}
 use Rattle.octets.specs.Number.{digits}
-use Rattle.octets.specs.Fields.{FieldAt, bytesOf}
+use Rattle.octets.specs.Fields.{FieldText, sizeOf, bytesOf}
 use Rattle.values.specs.Code.{isTrue}
+use Rattle.values.specs.Limits.{currencySize, locationSize}
 use Rattle.elements.specs.Codes.{executionTime, effectiveDate, expirationDate, cleared, nonStandardizedTerm, blockElection, largeNotionalElection, packageIndicator, packagePrice, priceNotation, priceCurrency, notionalAmount, notionalCurrency, settlementLocation, assetClass}
 use Rattle.elements.specs.Conditions.{kept}
 use Rattle.notional.specs.Amount.{amount}
 use Rattle.notional.specs.Masking.{over, shown}
 use Rattle.price.specs.Price.{priceSize, empty, shownPrice}
 
--- where the terms start in a line, and where they end: the newline's offset
-abbrev pub termsStart : ℕ
-termsStart = 52
+-- ---- the lengths of fields that no other chapter gives
 
-abbrev pub termsEnd : ℕ
-termsEnd = 145
-
-abbrev pub termsSize : ℕ
-termsSize = termsEnd - termsStart
-
--- a time is 20 bytes of a line
 abbrev pub timeSize : ℕ
 timeSize = 20
 
--- the tape shows T or F
-unfoldable pub shownTruth : List ℕ → List ℕ
-shownTruth v = choose (empty v) [] (choose (isTrue v) (text "T") (text "F"))
+abbrev pub dateSize : ℕ
+dateSize = 10
 
--- a price that is missing or left out shows nothing
-unfoldable pub priceText : List ℕ → List ℕ
-priceText v = choose (empty v) [] (shownPrice v)
+-- Cleared, a truth, a notation, the plus sign
+abbrev pub markSize : ℕ
+markSize = 1
 
--- plus sign or blank
-unfoldable pub plusText : Bool → List ℕ
-plusText plus = choose plus (text "+") []
+abbrev pub classSize : ℕ
+classSize = 2
 
 -- zero padded
 abbrev pub notionalSize : ℕ
 notionalSize = 16
 
+-- ---- what is shown of a value
+
+-- the tape shows T or F
+unfoldable pub shownTruth : Bytes → Bytes
+shownTruth v = choose (empty v) [] (choose (isTrue v) (text "T") (text "F"))
+
+-- a price that is missing or left out shows nothing
+unfoldable pub priceText : Bytes → Bytes
+priceText v = choose (empty v) [] (shownPrice v)
+
+-- plus sign or blank
+unfoldable pub plusText : Bool → Bytes
+plusText plus = choose plus (text "+") []
+
+-- ---- the fields, in the line's order
+
 -- execution time, effective, expiration, Cleared
-unfoldable pub dateFields : List ℕ → List FieldAt
+abbrev pub dateFields : Bytes → List FieldText
 dateFields m =
-    (termsStart, timeSize, kept executionTime m)
-    ∷ (72, 10, kept effectiveDate m)
-    ∷ (82, 10, kept expirationDate m)
-    ∷ (92, 1, kept cleared m)
+    (timeSize, kept executionTime m)
+    ∷ (dateSize, kept effectiveDate m)
+    ∷ (dateSize, kept expirationDate m)
+    ∷ (markSize, kept cleared m)
     ∷ []
 
 -- non-standardized, block, large, package
-unfoldable pub truthFields : List ℕ → List FieldAt
+abbrev pub truthFields : Bytes → List FieldText
 truthFields m =
-    (93, 1, shownTruth (kept nonStandardizedTerm m))
-    ∷ (94, 1, shownTruth (kept blockElection m))
-    ∷ (95, 1, shownTruth (kept largeNotionalElection m))
-    ∷ (96, 1, shownTruth (kept packageIndicator m))
+    (markSize, shownTruth (kept nonStandardizedTerm m))
+    ∷ (markSize, shownTruth (kept blockElection m))
+    ∷ (markSize, shownTruth (kept largeNotionalElection m))
+    ∷ (markSize, shownTruth (kept packageIndicator m))
     ∷ []
 
 -- price, notation, price currency
-unfoldable pub priceFields : List ℕ → List FieldAt
+abbrev pub priceFields : Bytes → List FieldText
 priceFields m =
-    (97, priceSize, priceText (kept packagePrice m))
-    ∷ (117, 1, kept priceNotation m)
-    ∷ (118, 3, kept priceCurrency m)
+    (priceSize, priceText (kept packagePrice m))
+    ∷ (markSize, kept priceNotation m)
+    ∷ (currencySize, kept priceCurrency m)
     ∷ []
 
 -- asset class, notional, plus sign, notional currency, location
-unfoldable pub notionalFields : ℕ → List ℕ → List FieldAt
+abbrev pub notionalFields : ℕ → Bytes → List FieldText
 notionalFields cap m =
-    (121, 2, kept assetClass m)
-    ∷ (123, notionalSize, digits notionalSize (shown cap (amount (kept notionalAmount m))))
-    ∷ (139, 1, plusText (over cap (amount (kept notionalAmount m))))
-    ∷ (140, 3, kept notionalCurrency m)
-    ∷ (143, 2, kept settlementLocation m)
+    (classSize, kept assetClass m)
+    ∷ (notionalSize, digits notionalSize (shown cap (amount (kept notionalAmount m))))
+    ∷ (markSize, plusText (over cap (amount (kept notionalAmount m))))
+    ∷ (currencySize, kept notionalCurrency m)
+    ∷ (locationSize, kept settlementLocation m)
     ∷ []
 
 -- the masked terms of a full message under the cap that applies
-unfoldable pub termFields : ℕ → List ℕ → List FieldAt
+abbrev pub termFields : ℕ → Bytes → List FieldText
 termFields cap m = dateFields m ++ (truthFields m ++ (priceFields m ++ notionalFields cap m))
 
-unfoldable pub termsOf : ℕ → List ℕ → List ℕ
+unfoldable pub termsOf : ℕ → Bytes → Bytes
 termsOf cap m = bytesOf (termFields cap m)
+
+-- ---- where each group starts, and the length of the terms, whatever they show
+
+abbrev pub nonStandardizedAt : ℕ
+nonStandardizedAt = sizeOf (dateFields [])
+
+abbrev pub priceAt : ℕ
+priceAt = nonStandardizedAt + sizeOf (truthFields [])
+
+abbrev pub classAt : ℕ
+classAt = priceAt + sizeOf (priceFields [])
+
+abbrev pub termsSize : ℕ
+termsSize = classAt + sizeOf (notionalFields 0 [])

@@ -1,4 +1,4 @@
-// The masked terms of a full message: document 01, 'The tape line', from 52 up to the newline.
+// The masked terms of a full message: document 01, 'The tape line', between the event time and the newline.
 ghost use mathlib.Core.Path.{_≡_};
 ghost use Prim.Native.Nat.{_+_, _≤_};
 ghost use lib.ListN.{length};
@@ -8,7 +8,7 @@ ghost use Rattle.octets.specs.Fields.{written};
 ghost use Rattle.elements.specs.Codes.{packagePrice};
 ghost use Rattle.elements.specs.Conditions.{factsOf, kept};
 ghost use Rattle.notional.specs.Masking.{largestCap};
-ghost use Rattle.terms.specs.Terms.{termsStart, termsSize, shownTruth, priceText, plusText, dateFields, truthFields, priceFields, notionalFields, termsOf};
+ghost use Rattle.terms.specs.Terms.{markSize, shownTruth, priceText, plusText, dateFields, truthFields, priceFields, notionalFields, termsOf, nonStandardizedAt, priceAt, classAt, termsSize};
 use elements::ASSET_CLASS;
 use elements::BLOCK_ELECTION;
 use elements::CLEARED;
@@ -26,6 +26,8 @@ use elements::PRICE_CURRENCY;
 use elements::PRICE_NOTATION;
 use elements::SETTLEMENT_LOCATION;
 use octets::field_at;
+use values::CURRENCY_SIZE;
+use values::LOCATION_SIZE;
 
 // Lengths of the fields.
 pub const TIME_SIZE: usize = 20;
@@ -36,13 +38,9 @@ const MARK_SIZE: usize = 1;
 
 pub const PRICE_SIZE: usize = 20;
 
-const CURRENCY_SIZE: usize = 3;
-
 const CLASS_SIZE: usize = 2;
 
 pub const NOTIONAL_SIZE: usize = 16;
-
-const LOCATION_SIZE: usize = 2;
 
 // Where each field starts in the terms.
 const EXECUTION_AT: usize = 0;
@@ -91,9 +89,9 @@ fn text_at(dst: &mut [u8], at: usize, n: usize, m: &[u8], facts: Facts, code: u1
 
 // Writes T or F for a truth; a space where it is missing or left out.
 fn truth_at(dst: &mut [u8], at: usize, m: &[u8], facts: Facts, code: u16)
-    requires { ⌜ at + 1 ≤ length (now dst) ⌝ }
+    requires { ⌜ at + markSize ≤ length (now dst) ⌝ }
     requires { ⌜ facts ≡ factsOf (now m) ⌝ }
-    ensures { λ _. ⌜ now (dst .exit) ≡ splice (now (dst .entry)) at (field 1 (shownTruth (kept code (now (m .entry))))) ⌝ }
+    ensures { λ _. ⌜ now (dst .exit) ≡ splice (now (dst .entry)) at (field markSize (shownTruth (kept code (now (m .entry))))) ⌝ }
 {
     let v = elements::kept(m, facts, code);
     if v.len() == 0 {
@@ -123,8 +121,8 @@ fn package_price_at(dst: &mut [u8], at: usize, n: usize, m: &[u8], facts: Facts)
 
 // Writes a plus sign or a blank.
 fn plus_at(dst: &mut [u8], at: usize, plus: bool)
-    requires { ⌜ at + 1 ≤ length (now dst) ⌝ }
-    ensures { λ _. ⌜ now (dst .exit) ≡ splice (now (dst .entry)) at (field 1 (plusText plus)) ⌝ }
+    requires { ⌜ at + markSize ≤ length (now dst) ⌝ }
+    ensures { λ _. ⌜ now (dst .exit) ≡ splice (now (dst .entry)) at (field markSize (plusText plus)) ⌝ }
 {
     if plus {
         field_at(dst, at, MARK_SIZE, b"+");
@@ -137,7 +135,7 @@ fn plus_at(dst: &mut [u8], at: usize, plus: bool)
 fn write_dates(dst: &mut [u8], m: &[u8], facts: Facts)
     requires { ⌜ length (now dst) ≡ termsSize ⌝ }
     requires { ⌜ facts ≡ factsOf (now m) ⌝ }
-    ensures { λ _. ⌜ now (dst .exit) ≡ written termsStart (dateFields (now (m .entry))) (now (dst .entry)) ⌝ }
+    ensures { λ _. ⌜ now (dst .exit) ≡ written 0 (dateFields (now (m .entry))) (now (dst .entry)) ⌝ }
 {
     text_at(dst, EXECUTION_AT, TIME_SIZE, m, facts, EXECUTION_TIME);
     text_at(dst, EFFECTIVE_AT, DATE_SIZE, m, facts, EFFECTIVE_DATE);
@@ -149,7 +147,7 @@ fn write_dates(dst: &mut [u8], m: &[u8], facts: Facts)
 fn write_truths(dst: &mut [u8], m: &[u8], facts: Facts)
     requires { ⌜ length (now dst) ≡ termsSize ⌝ }
     requires { ⌜ facts ≡ factsOf (now m) ⌝ }
-    ensures { λ _. ⌜ now (dst .exit) ≡ written termsStart (truthFields (now (m .entry))) (now (dst .entry)) ⌝ }
+    ensures { λ _. ⌜ now (dst .exit) ≡ written nonStandardizedAt (truthFields (now (m .entry))) (now (dst .entry)) ⌝ }
 {
     truth_at(dst, NON_STANDARDIZED_AT, m, facts, NON_STANDARDIZED_TERM);
     truth_at(dst, BLOCK_AT, m, facts, BLOCK_ELECTION);
@@ -161,7 +159,7 @@ fn write_truths(dst: &mut [u8], m: &[u8], facts: Facts)
 fn write_package(dst: &mut [u8], m: &[u8], facts: Facts)
     requires { ⌜ length (now dst) ≡ termsSize ⌝ }
     requires { ⌜ facts ≡ factsOf (now m) ⌝ }
-    ensures { λ _. ⌜ now (dst .exit) ≡ written termsStart (priceFields (now (m .entry))) (now (dst .entry)) ⌝ }
+    ensures { λ _. ⌜ now (dst .exit) ≡ written priceAt (priceFields (now (m .entry))) (now (dst .entry)) ⌝ }
 {
     package_price_at(dst, PRICE_AT, PRICE_SIZE, m, facts);
     text_at(dst, NOTATION_AT, MARK_SIZE, m, facts, PRICE_NOTATION);
@@ -179,7 +177,7 @@ fn write_package(dst: &mut [u8], m: &[u8], facts: Facts)
 fn write_notional(dst: &mut [u8], m: &[u8], facts: Facts, cap: u64)
     requires { ⌜ (length (now dst) ≡ termsSize) × (cap ≤ largestCap) ⌝ }
     requires { ⌜ facts ≡ factsOf (now m) ⌝ }
-    ensures { λ _. ⌜ now (dst .exit) ≡ written termsStart (notionalFields cap (now (m .entry))) (now (dst .entry)) ⌝ }
+    ensures { λ _. ⌜ now (dst .exit) ≡ written classAt (notionalFields cap (now (m .entry))) (now (dst .entry)) ⌝ }
 {
     let masked = notional::mask(elements::kept(m, facts, NOTIONAL_AMOUNT), cap);
     text_at(dst, CLASS_AT, CLASS_SIZE, m, facts, ASSET_CLASS);

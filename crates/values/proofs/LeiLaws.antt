@@ -2,7 +2,7 @@
 use Prim.Native.Nat.{ℕ, zero, suc, _+_, _-_, _*_, _/_, _%_, _^_, _<_, _≤_}
 use Prim.Native.Char.{code}
 use mathlib.Core.Path.{_≡_, refl, sym, ap, _∙_}
-use mathlib.Core.List.{List, [], _∷_, _++_}
+use mathlib.Core.List.{[], _∷_, _++_}
 use mathlib.Core.Bool.{true}
 use native.Mathlib.Omega.{arith}
 use native.Mathlib.Nat.{add-mul-mod-self-right, div-add-mod', add-mul, mul-right-comm, mul-le-mul-left}
@@ -11,6 +11,7 @@ use borrow.Author.Tests.{lt-leb, leb-true}
 use lib.Dec.{leb}
 use lib.ListN.{length, getD, take, drop}
 use lib.Seq.{take-suc, take-add}
+use Rattle.octets.specs.Bytes.{Bytes}
 use Rattle.octets.proofs.ChoiceLaws.{both-first}
 use Rattle.octets.proofs.NumberLaws.{byte-more}
 use Rattle.values.specs.Limits.{leiModulus}
@@ -34,27 +35,27 @@ unfolding grow
 grow-mod n b = step-mod (weight b) n (number b)
 
 -- and so do more of them
-pub spell-mod : (v : List ℕ) (n m : ℕ) → n % leiModulus ≡ m % leiModulus → spell n v % leiModulus ≡ spell m v % leiModulus
+pub spell-mod : (v : Bytes) (n m : ℕ) → n % leiModulus ≡ m % leiModulus → spell n v % leiModulus ≡ spell m v % leiModulus
 unfolding spell
 spell-mod [] n m e = e
 spell-mod (b ∷ v) n m e = spell-mod v (grow n b) (grow m b) (sym (grow-mod n b) ∙ ap (λ (r : ℕ). grow r b % leiModulus) e ∙ grow-mod m b)
 
-pub spell-append : (n : ℕ) (u v : List ℕ) → spell n (u ++ v) ≡ spell (spell n u) v
+pub spell-append : (n : ℕ) (u v : Bytes) → spell n (u ++ v) ≡ spell (spell n u) v
 unfolding spell
 spell-append n [] v = refl
 spell-append n (b ∷ u) v = spell-append (grow n b) u v
 
 -- a prefix with the next characters, as many as there are
-take-part : (n : ℕ) (xs : List ℕ) → take (length (take n xs)) xs ≡ take n xs
+take-part : (n : ℕ) (xs : Bytes) → take (length (take n xs)) xs ≡ take n xs
 take-part zero xs = refl
 take-part (suc n) [] = refl
-take-part (suc n) (x ∷ xs) = ap (λ (ys : List ℕ). x ∷ ys) (take-part n xs)
+take-part (suc n) (x ∷ xs) = ap (λ (ys : Bytes). x ∷ ys) (take-part n xs)
 
-pub take-more : (k n : ℕ) (v part : List ℕ) → part ≡ take n (drop k v) → take (k + length part) v ≡ take k v ++ part
-take-more k n v part e = rw e (take-add k (length (take n (drop k v))) v ∙ ap (λ (r : List ℕ). take k v ++ r) (take-part n (drop k v)))
+pub take-more : (k n : ℕ) (v part : Bytes) → part ≡ take n (drop k v) → take (k + length part) v ≡ take k v ++ part
+take-more k n v part e = rw e (take-add k (length (take n (drop k v))) v ∙ ap (λ (r : Bytes). take k v ++ r) (take-part n (drop k v)))
 
 -- the number that a prefix spells, read on by the next character
-pub spell-next : (n : ℕ) (v : List ℕ) (k : ℕ) → k < length v → grow (spell n (take k v)) (getD v k 0) ≡ spell n (take (k + 1) v)
+pub spell-next : (n : ℕ) (v : Bytes) (k : ℕ) → k < length v → grow (spell n (take k v)) (getD v k 0) ≡ spell n (take (k + 1) v)
 unfolding spell
 spell-next n v k h =
     let more : take (k + 1) v ≡ take k v ++ (getD v k 0 ∷ []) = rw (add-one k) (take-suc v k 0 h) in

@@ -1,43 +1,43 @@
 -- Document 01, 'Elements': values that are one of a few codes, byte for byte.
-use Prim.Native.Nat.{ℕ}
 use Prim.Native.String.{String}
 use mathlib.Core.Bool.{Bool}
 use mathlib.Core.List.{List, [], _∷_}
+use Rattle.octets.specs.Bytes.{Bytes}
 use Rattle.octets.specs.Choice.{either}
 use Rattle.octets.specs.Text.{text}
 use Rattle.octets.specs.Same.{sameBytes, oneOf}
 
 -- truth: True, False, true or false
-unfoldable pub isTrue : List ℕ → Bool
+unfoldable pub isTrue : Bytes → Bool
 isTrue v = either (sameBytes v (text "True")) (sameBytes v (text "true"))
 
-unfoldable pub isFalse : List ℕ → Bool
+unfoldable pub isFalse : Bytes → Bool
 isFalse v = either (sameBytes v (text "False")) (sameBytes v (text "false"))
 
-unfoldable pub isTruth : List ℕ → Bool
+unfoldable pub isTruth : Bytes → Bool
 isTruth v = either (isTrue v) (isFalse v)
 
 -- code 10: Y, N or I
 abbrev pub clearedCodes : List String
 clearedCodes = "Y" ∷ "N" ∷ "I" ∷ []
 
-unfoldable pub isCleared : List ℕ → Bool
+unfoldable pub isCleared : Bytes → Bool
 isCleared v = oneOf clearedCodes v
 
 -- code 14: POST, PREA or UNAL
-unfoldable pub isAllocation : List ℕ → Bool
+unfoldable pub isAllocation : Bytes → Bool
 isAllocation v = either (sameBytes v (text "POST")) (either (sameBytes v (text "PREA")) (sameBytes v (text "UNAL")))
 
 -- code 18: 1 or 3
 abbrev pub notationCodes : List String
 notationCodes = "1" ∷ "3" ∷ []
 
-unfoldable pub isNotation : List ℕ → Bool
+unfoldable pub isNotation : Bytes → Bool
 isNotation v = oneOf notationCodes v
 
 -- code 25: CR, IR, FX, EQ or CO
 abbrev pub assetClasses : List String
 assetClasses = "CR" ∷ "IR" ∷ "FX" ∷ "EQ" ∷ "CO" ∷ []
 
-unfoldable pub isAssetClass : List ℕ → Bool
+unfoldable pub isAssetClass : Bytes → Bool
 isAssetClass v = oneOf assetClasses v

@@ -2,9 +2,10 @@
 use Prim.Native.Nat.{ℕ, _+_, _-_, _*_, _%_}
 use Prim.Native.Char.{code}
 use mathlib.Core.Bool.{Bool}
-use mathlib.Core.List.{List, [], _∷_}
+use mathlib.Core.List.{[], _∷_}
 use lib.ListN.{take, drop}
 use lib.Dec.{eqb}
+use Rattle.octets.specs.Bytes.{Bytes}
 use Rattle.octets.specs.Choice.{choose, both}
 use Rattle.values.specs.Limits.{leiBody, leiCheck, leiModulus}
 use Rattle.values.specs.Run.{inClass, runOf}
@@ -22,12 +23,12 @@ unfoldable pub grow : ℕ → ℕ → ℕ
 grow n b = n * weight b + number b
 
 -- the whole number that a text spells, read on from n
-unfoldable pub spell : ℕ → List ℕ → ℕ
+unfoldable pub spell : ℕ → Bytes → ℕ
 spell n [] = n
 spell n (b ∷ v) = spell (grow n b) v
 
 -- 18 capitals or digits, then two digits, and the whole number leaves 1 when divided by 97
-unfoldable pub isLei : List ℕ → Bool
+unfoldable pub isLei : Bytes → Bool
 isLei v =
     both (runOf leiBody leiBody CapitalOrDigit (take leiBody v))
     (both (runOf leiCheck leiCheck Digit (drop leiBody v)) (eqb (spell 0 v % leiModulus) 1))

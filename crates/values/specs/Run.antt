@@ -2,9 +2,9 @@
 use Prim.Native.Nat.{ℕ}
 use Prim.Native.Char.{Char, code}
 use mathlib.Core.Bool.{Bool}
-use mathlib.Core.List.{List}
 use lib.ListN.{length, getD}
 use lib.Dec.{leb}
+use Rattle.octets.specs.Bytes.{Bytes}
 use Rattle.octets.specs.Choice.{both, either}
 use Rattle.octets.specs.Search.{all}
 use Rattle.values.specs.Limits.{utiLeast, utiMost, eventSize, packageMost, currencySize, locationSize}
@@ -25,25 +25,25 @@ inClass CapitalOrDigit b = either (between "A" "Z" b) (between "0" "9" b)
 inClass LetterOrDigit b = either (between "a" "z" b) (either (between "A" "Z" b) (between "0" "9" b))
 
 -- at least `least` and at most `most` bytes, each of the class
-unfoldable pub runOf : ℕ → ℕ → Class → List ℕ → Bool
+unfoldable pub runOf : ℕ → ℕ → Class → Bytes → Bool
 runOf least most class v = both (leb least (length v)) (both (leb (length v) most) (all (λ k. inClass class (getD v k 0)) (length v)))
 
 -- code 1: 21 to 52 capitals or digits
-abbrev pub isUti : List ℕ → Bool
+abbrev pub isUti : Bytes → Bool
 isUti v = runOf utiLeast utiMost CapitalOrDigit v
 
 -- code 3: 4 capitals
-abbrev pub isEvent : List ℕ → Bool
+abbrev pub isEvent : Bytes → Bool
 isEvent v = runOf eventSize eventSize Capital v
 
 -- code 16: 1 to 100 letters or digits
-abbrev pub isPackageIdentifier : List ℕ → Bool
+abbrev pub isPackageIdentifier : Bytes → Bool
 isPackageIdentifier v = runOf 1 packageMost LetterOrDigit v
 
 -- codes 19 and 21: 3 capitals
-abbrev pub isCurrency : List ℕ → Bool
+abbrev pub isCurrency : Bytes → Bool
 isCurrency v = runOf currencySize currencySize Capital v
 
 -- code 22: 2 capitals
-abbrev pub isLocation : List ℕ → Bool
+abbrev pub isLocation : Bytes → Bool
 isLocation v = runOf locationSize locationSize Capital v

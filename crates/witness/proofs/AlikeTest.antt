@@ -7,6 +7,7 @@ use mathlib.Core.List.{List}
 use lib.ListN.{length}
 use lib.Dec.{eqb}
 use borrow.Author.Tests.{eqb-true, eq-eqb}
+use Rattle.octets.specs.Bytes.{Bytes}
 use Rattle.octets.specs.Choice.{choose, both}
 use Rattle.octets.specs.Search.{all}
 use Rattle.octets.specs.Same.{sameBytes}
@@ -27,10 +28,10 @@ use Rattle.submission.specs.Demand3.{messageAt, verdictAt, Accepted, maskedTerm
 abbrev pub ifAccepted : List Judgement → ℕ → Bool → Bool
 ifAccepted js i t = choose (eqb (verdictAt js i) 0) t true
 
-abbrev pub sameValue : ℕ → List ℕ → List ℕ → Bool
+abbrev pub sameValue : ℕ → Bytes → Bytes → Bool
 sameValue code m₁ m₂ = sameBytes (value code m₁) (value code m₂)
 
-abbrev pub sameShown : List ℕ → List ℕ → Bool
+abbrev pub sameShown : Bytes → Bytes → Bool
 sameShown m₁ m₂ = both (sameValue actionCode m₁ m₂) (both (sameValue eventType m₁ m₂) (sameValue eventTime m₁ m₂))
 
 abbrev pub sameSwap : List Judgement → ℕ → ℕ → Bool
@@ -60,10 +61,10 @@ at-place f n i h e = rw zero-add at (all-at f 0 n i h e)
 if-accepted : (js : List Judgement) (i : ℕ) (t : Bool) → Accepted js i → ifAccepted js i t ≡ true → t ≡ true
 if-accepted js i t a e = rw (eq-eqb (verdictAt js i) 0 (a .1)) at e
 
-same-value : (code : ℕ) (m₁ m₂ : List ℕ) → sameValue code m₁ m₂ ≡ true → value code m₁ ≡ value code m₂
+same-value : (code : ℕ) (m₁ m₂ : Bytes) → sameValue code m₁ m₂ ≡ true → value code m₁ ≡ value code m₂
 same-value code m₁ m₂ e = same-true (value code m₁) (value code m₂) e
 
-same-shown : (m₁ m₂ : List ℕ) → sameShown m₁ m₂ ≡ true → SameShown m₁ m₂
+same-shown : (m₁ m₂ : Bytes) → sameShown m₁ m₂ ≡ true → SameShown m₁ m₂
 same-shown m₁ m₂ e =
     let rest : both (sameValue eventType m₁ m₂) (sameValue eventTime m₁ m₂) ≡ true = both-second (sameValue actionCode m₁ m₂) _ e in
     (same-value actionCode m₁ m₂ (both-first (sameValue actionCode m₁ m₂) _ e), same-value eventType m₁ m₂ (both-first (sameValue eventType m₁ m₂) _ rest), same-value eventTime m₁ m₂ (both-second (sameValue eventType m₁ m₂) _ rest))
@@ -75,7 +76,7 @@ beq-same false true e = absurd (false≢true e)
 beq-same false false e = refl
 
 -- where tests of equality agree, one pair is equal if the other is
-same-from : (u v x y : List ℕ) → sameBytes u v ≡ sameBytes x y → u ≡ v → x ≡ y
+same-from : (u v x y : Bytes) → sameBytes u v ≡ sameBytes x y → u ≡ v → x ≡ y
 same-from u v x y e p =
     let t : sameBytes u v ≡ true = rw p (same-refl v) in
     same-true x y (sym e ∙ t)

@@ -23,12 +23,12 @@ use Rattle.notional.specs.Amount.{digit, spelled, fraction, amount}
 use Rattle.notional.specs.Masking.{over, shown, isCap}
 use Rattle.notional.specs.Rounding.{bands, stepIn, step, nearest, rounded}
 use Rattle.price.specs.Price.{dropZeros, trimZeros, shownWhole, shownDecimals, shownUnsigned, isZero, showsMinus, shownSign, shownPrice}
-use Rattle.terms.specs.Terms.{shownTruth, priceText, plusText, dateFields, truthFields, priceFields, notionalFields, termFields, termsOf}
+use Rattle.terms.specs.Terms.{shownTruth, priceText, plusText, termsOf}
 use Rattle.rules.specs.Findings.{lowest, firstBroken}
 use Rattle.rules.specs.Rules.{longPrice, priceTooLong, outOfOrder, rulesOf, rulesFor}
-use Rattle.ledger.specs.Header.{rowsInUse, firstRow, nextIdentifier, capsIn, sizeOfRows, capacityIn, capFor, areCaps, capacityFor, headerRight, headerOf, headerFields, capFields, newHeader}
-use Rattle.ledger.specs.Line.{lineFields, line}
-use Rattle.ledger.specs.Rows.{rowAt, statusOf, identifierOf, storedTerms, storedTime, holdsUti, placeIn, isKnown, swapStatus, swapIdentifier, swapTime, rowFields, newRow, withStatus, withIdentifier, withTerms, withRows, withNext, headerAfter}
+use Rattle.ledger.specs.Header.{rowsInUse, firstRow, nextIdentifier, capsIn, sizeOfRows, capacityIn, capFor, areCaps, capacityFor, headerRight, headerOf, newHeader}
+use Rattle.ledger.specs.Line.{line}
+use Rattle.ledger.specs.Rows.{rowAt, statusOf, identifierOf, storedTerms, storedTime, holdsUti, placeIn, isKnown, swapStatus, swapIdentifier, swapTime, newRow, withStatus, withIdentifier, withTerms, withRows, withNext, headerAfter}
 use Rattle.submission.specs.Demand3.{lastTerms, maskedTermsAt}
 use Rattle.submission.specs.History.{publishes, lineOf, tape, judgements}
 use Rattle.submission.specs.Opening.{openingRules, openingVerdict, opened}
@@ -52,7 +52,7 @@ unfolding u16At entryRight layoutRight wholeEntries entryFrom endOf valueAt valu
 reading = tt
 
 masking : Unit {0}
-unfolding digit spelled fraction amount over shown isCap bands stepIn step nearest rounded dropZeros trimZeros shownWhole shownDecimals shownUnsigned isZero showsMinus shownSign shownPrice shownTruth priceText plusText dateFields truthFields priceFields notionalFields termFields termsOf
+unfolding digit spelled fraction amount over shown isCap bands stepIn step nearest rounded dropZeros trimZeros shownWhole shownDecimals shownUnsigned isZero showsMinus shownSign shownPrice shownTruth priceText plusText termsOf
 masking = tt
 
 judging : Unit {0}
@@ -60,7 +60,7 @@ unfolding lowest firstBroken longPrice priceTooLong outOfOrder rulesOf rulesFor
 judging = tt
 
 storing : Unit {0}
-unfolding rowsInUse firstRow nextIdentifier capsIn sizeOfRows capacityIn capFor areCaps capacityFor headerRight headerOf headerFields capFields newHeader lineFields line rowAt statusOf identifierOf storedTerms storedTime holdsUti placeIn isKnown swapStatus swapIdentifier swapTime rowFields newRow withStatus withIdentifier withTerms withRows withNext headerAfter
+unfolding rowsInUse firstRow nextIdentifier capsIn sizeOfRows capacityIn capFor areCaps capacityFor headerRight headerOf newHeader line rowAt statusOf identifierOf storedTerms storedTime holdsUti placeIn isKnown swapStatus swapIdentifier swapTime newRow withStatus withIdentifier withTerms withRows withNext headerAfter
 storing = tt
 
 submitting : Unit {0}

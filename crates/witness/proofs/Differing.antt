@@ -2,10 +2,10 @@
 use Prim.Native.Nat.{ℕ}
 use mathlib.Core.Bool.{true, not}
 use mathlib.Core.Path.{_≡_, refl}
-use mathlib.Core.List.{List}
 use lib.ListN.{length}
 use lib.Dec.{eqb}
 use borrow.Author.Tests.{eqb-false, not-true}
+use Rattle.octets.specs.Bytes.{Bytes}
 use Rattle.octets.specs.Search.{all}
 use Rattle.octets.specs.Same.{sameBytes}
 use Rattle.octets.proofs.SameLaws.{same-apart}
@@ -15,7 +15,7 @@ use Rattle.witness.proofs.AlikeTest.{at-place}
 use Rattle.witness.proofs.Computing.{computing}
 
 -- bytes that the test tells apart are not equal
-told-apart : (u v : List ℕ) → not (sameBytes u v) ≡ true → u ≡ v → ⊥
+told-apart : (u v : Bytes) → not (sameBytes u v) ≡ true → u ≡ v → ⊥
 told-apart u v e = same-apart u v (not-true (sameBytes u v) e)
 
 numbers-apart : (a b : ℕ) → not (eqb a b) ≡ true → a ≡ b → ⊥

@@ -1,8 +1,9 @@
 -- The premises of demand 3 are met by two histories that differ. Assumes nothing.
-use Prim.Native.Nat.{ℕ, _^_, _<_}
+use Prim.Native.Nat.{_^_, _<_}
 use mathlib.Core.Path.{_≡_, refl}
 use mathlib.Core.List.{List, [], _∷_, map}
 use native.Mathlib.Omega.{arith}
+use Rattle.octets.specs.Bytes.{Bytes}
 use Rattle.ledger.specs.Layout.{u32}
 use Rattle.submission.specs.Opening.{opened}
 use Rattle.submission.specs.History.{Judgement, judgements, tape}
@@ -27,7 +28,7 @@ judgedLeft = judgements limits (start limits caps leftLedger) left
 abbrev pub judgedRight : List Judgement
 judgedRight = judgements limits (start limits caps rightLedger) right
 
-abbrev pub verdictNumbers : List Judgement → List ℕ
+abbrev pub verdictNumbers : List Judgement → Bytes
 verdictNumbers js = map (λ j. j .verdict) js
 
 pub verdicts-left : verdictNumbers judgedLeft ≡ 0 ∷ 0 ∷ 15 ∷ 0 ∷ 0 ∷ []

@@ -3,6 +3,7 @@ use Prim.Native.Nat.{ℕ, _<_}
 use mathlib.Core.Path.{_≡_}
 use mathlib.Core.List.{List, [], _∷_, map}
 use lib.ListN.{length, getD}
+use Rattle.octets.specs.Bytes.{Bytes}
 use Rattle.message.specs.Values.{value}
 use Rattle.elements.specs.Codes.{uti, reportingTime, settlementDate, packageIdentifier, packagePrice, notionalAmount}
 use Rattle.notional.specs.Amount.{amount}
@@ -19,7 +20,7 @@ abbrev pub fullPlaces : List ℕ
 fullPlaces = 0 ∷ 1 ∷ 3 ∷ []
 
 -- the value of a hidden element in a full message of a history
-abbrev pub hidden : List Call → ℕ → ℕ → List ℕ
+abbrev pub hidden : List Call → ℕ → ℕ → Bytes
 hidden h i k = value (getD hiddenCodes k 0) (getD (map messageOf h) (getD fullPlaces i 0) [])
 
 -- the exact amount of a full message of a history
@@ -27,7 +28,7 @@ abbrev pub exact : List Call → ℕ → ℕ
 exact h i = amount (value notionalAmount (getD (map messageOf h) (getD fullPlaces i 0) []))
 
 -- the tape buffer that is lent for a call
-abbrev pub bufferOf : Call → List ℕ
+abbrev pub bufferOf : Call → Bytes
 bufferOf (submit m b) = b .tape
 
 abbrev pub bufferSize : List Call → ℕ → ℕ

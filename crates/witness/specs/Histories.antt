@@ -2,6 +2,7 @@
 use Prim.Native.Nat.{ℕ, _+_}
 use mathlib.Core.List.{List, [], _∷_}
 use lib.ListN.{replicate}
+use Rattle.octets.specs.Bytes.{Bytes}
 use Rattle.ledger.specs.declared.header.Caps.{Caps}
 use Rattle.ledger.specs.Layout.{lineSize, rowStart}
 use Rattle.submission.specs.Opening.{Limits, documentLimits}
@@ -44,7 +45,7 @@ northGrain =
     }
 
 -- a ledger of two rows
-abbrev pub leftLedger : List ℕ
+abbrev pub leftLedger : Bytes
 leftLedger = replicate (rowStart 2) 0
 
 -- the third message is refused: the swap is known
@@ -84,7 +85,7 @@ southGrain =
     }
 
 -- a ledger of three rows, with bytes to spare
-abbrev pub rightLedger : List ℕ
+abbrev pub rightLedger : Bytes
 rightLedger = replicate (rowStart 3 + 56) 255
 
 -- the third message is refused: the swap is not known yet

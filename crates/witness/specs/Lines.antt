@@ -1,11 +1,11 @@
 -- The tape of both histories, written down from document 01, 'The tape line'.
-use Prim.Native.Nat.{ℕ}
 use Prim.Native.String.{String}
 use mathlib.Core.List.{List, [], _∷_, _++_}
+use Rattle.octets.specs.Bytes.{Bytes}
 use Rattle.octets.specs.Text.{text}
-use Rattle.ledger.specs.Layout.{newline}
+use Rattle.ledger.specs.Line.{newline}
 
--- the masked terms of the full messages, 93 bytes each
+-- the masked terms of the full messages
 abbrev pub newTerms : String
 newTerms = "2026-03-02T14:29:58Z2026-03-042031-03-04Y FTT-101.25             1USDIR0000000100000000 USDUS"
 
@@ -15,15 +15,15 @@ extendedTerms = "2026-03-02T14:29:58Z2026-03-042033-03-04Y FTT-101.25           
 abbrev pub unclearedTerms : String
 unclearedTerms = "2026-03-03T10:14:30Z2026-04-012027-04-01NTFFF                        CO0000000000001000 EUR  "
 
--- identifier, previous one, action, event and event time, 52 bytes; terms; newline
-unfoldable pub lineText : String → String → List ℕ
+-- identifier, previous one, action, event and event time; terms; newline
+unfoldable pub lineText : String → String → Bytes
 lineText head terms = text head ++ (text terms ++ (newline ∷ []))
 
-unfoldable pub lines : List (String × String) → List ℕ
+unfoldable pub lines : List (String × String) → Bytes
 lines [] = []
 lines (l ∷ ls) = lineText (l .0) (l .1) ++ lines ls
 
-unfoldable pub tapeText : List ℕ
+unfoldable pub tapeText : Bytes
 tapeText =
     lines
     (("000000000001            NEWTTRAD2026-03-02T14:30:00Z", newTerms)

@@ -1,7 +1,8 @@
 -- The messages of both histories: what the tape shows is written out, what it does not show is a parameter.
 use Prim.Native.Nat.{ℕ}
 use Prim.Native.String.{String}
-use mathlib.Core.List.{List, [], _∷_}
+use mathlib.Core.List.{[], _∷_}
+use Rattle.octets.specs.Bytes.{Bytes}
 use Rattle.actions.specs.Actions.{actionCode}
 use Rattle.elements.specs.Codes.{uti, eventType, eventTime, reportingTime, executionTime, effectiveDate, expirationDate, settlementDate, cleared, nonStandardizedTerm, blockElection, largeNotionalElection, packageIndicator, packageIdentifier, packagePrice, priceNotation, priceCurrency, notionalAmount, notionalCurrency, settlementLocation, assetClass}
 use Rattle.witness.specs.Encoding.{encoded}
@@ -29,7 +30,7 @@ pub record Hidden : Type 0 where
 -- ---- the messages: each has its own reporting time, and a full one its own amount
 
 -- a swap of a package with a price in dollars
-unfoldable pub packageSwap : String → String → String → Hidden → String → String → List ℕ
+unfoldable pub packageSwap : String → String → String → Hidden → String → String → Bytes
 packageSwap action time expiration h reported amount =
     encoded
     ((uti, h .uti)
@@ -59,15 +60,15 @@ packageSwap action time expiration h reported amount =
     ∷ [])
 
 -- it is new
-abbrev pub newPackageSwap : Hidden → String → String → List ℕ
+abbrev pub newPackageSwap : Hidden → String → String → Bytes
 newPackageSwap = packageSwap "NEWT" "2026-03-02T14:30:00Z" "2031-03-04"
 
 -- it is modified: it expires two years later
-abbrev pub extendedPackageSwap : Hidden → String → String → List ℕ
+abbrev pub extendedPackageSwap : Hidden → String → String → Bytes
 extendedPackageSwap = packageSwap "MODI" "2026-03-03T09:00:00Z" "2033-03-04"
 
 -- another new swap, not cleared and of no package: package name and price are sent and left out
-unfoldable pub newUnclearedSwap : Hidden → String → String → List ℕ
+unfoldable pub newUnclearedSwap : Hidden → String → String → Bytes
 newUnclearedSwap h reported amount =
     encoded
     ((uti, h .uti)
@@ -95,7 +96,7 @@ newUnclearedSwap h reported amount =
     ∷ [])
 
 -- a swap was reported in error; there is no event
-unfoldable pub inError : Hidden → String → List ℕ
+unfoldable pub inError : Hidden → String → Bytes
 inError h reported =
     encoded
     ((uti, h .uti)
@@ -105,7 +106,7 @@ inError h reported =
     ∷ [])
 
 -- a swap is terminated early
-unfoldable pub termination : Hidden → String → List ℕ
+unfoldable pub termination : Hidden → String → Bytes
 termination h reported =
     encoded
     ((uti, h .uti)

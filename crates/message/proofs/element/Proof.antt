@@ -1,13 +1,14 @@
 -- `message::element` meets its contract: a reader is started, comes to the entry with the code, and hands out that entry's value.
 use mathlib.Core.Path.{_≡_, refl}
 use Prim.Native.Nat.{ℕ}
-use mathlib.Core.List.{List, [], _∷_}
+use mathlib.Core.List.{[], _∷_}
 use mir.Syntax.{erased, w16}
 use mir.Val.{Val, vint}
 use base.Fml.{Lft}
 use denote.RattleType.{owns}
 use denote.Builtin.{u16}
 use denote.Ref.{RefT, NamedLft, now}
+use Rattle.octets.specs.Bytes.{Bytes}
 use Rattle.octets.specs.Part.{PartOf}
 use Rattle.message.specs.Values.{value as valueOf}
 use Rattle.message.specs.declared.Reader.{Reader}
@@ -28,17 +29,17 @@ abbrev params : (κs : Lfts 1) → Params (Lent (κs .0) ∷ u16 ∷ [])
 params κs = (lent (κs .0), (number, tt))
 
 -- what `start` and `seek` say of the readers that they hand out
-abbrev Started : RefT (List ℕ) → Reader → Type 0
+abbrev Started : RefT Bytes → Reader → Type 0
 Started m d = (d .src ≡ m) × (d .at ≡ 0)
 
 abbrev Sought : Reader → ℕ → Reader → Type 0
 Sought d c d′ = (d′ .src ≡ d .src) × Next d c (d′ .at)
 
 -- what is to be said of the part of the message that is handed out
-abbrev Found : RefT (List ℕ) → ℕ → RefT (List ℕ) → Type 0
+abbrev Found : RefT Bytes → ℕ → RefT Bytes → Type 0
 Found m c r = (now r ≡ valueOf c (now m)) × PartOf m r
 
-together : (m : RefT (List ℕ)) (c : ℕ) (d d′ : Reader) (r : RefT (List ℕ)) → Started m d → Sought d c d′ → Valued d′ r → Found m c r
+together : (m : RefT Bytes) (c : ℕ) (d d′ : Reader) (r : RefT Bytes) → Started m d → Sought d c d′ → Valued d′ r → Found m c r
 unfolding valueOf
 together m c d d′ r e e′ e″ = (cc, rw (e′ .0, e .0) at (e″ .1))
 
@@ -47,10 +48,10 @@ abbrev unnamed : Lft → NamedLft
 unnamed κ = record { mir = erased; lft = κ }
 
 module _ {M : Type 1} (𝓤 : URA M) (H : Heap 𝓤) (𝓜 : Model 𝓤 H) (𝓖 : GhostRules 𝓤 H) (𝓡 : Running 𝓤 H 𝓜) where
-  abbrev case : (κs : Lfts 1) (qs : Shares 1) (m : RefT (List ℕ)) (c : ℕ) → Case 𝓤 H 𝓜 𝓖 𝓡 element.ended (element.clauses 𝓤 H)
+  abbrev case : (κs : Lfts 1) (qs : Shares 1) (m : RefT Bytes) (c : ℕ) → Case 𝓤 H 𝓜 𝓖 𝓡 element.ended (element.clauses 𝓤 H)
   case κs qs m c = ((κs, qs, tt, (m, (c, tt)), (bytes m ∷ [], (vint w16 c ∷ [], tt))), tt)
 
-  exits : (κs : Lfts 1) (qs : Shares 1) (m : RefT (List ℕ)) (c : ℕ) (u : Val) (r : RefT (List ℕ)) → Found m c r → Exits 𝓤 H 𝓜 𝓖 𝓡 element.ended (element.clauses 𝓤 H) (case κs qs m c) u r
+  exits : (κs : Lfts 1) (qs : Shares 1) (m : RefT Bytes) (c : ℕ) (u : Val) (r : RefT Bytes) → Found m c r → Exits 𝓤 H 𝓜 𝓖 𝓡 element.ended (element.clauses 𝓤 H) (case κs qs m c) u r
   exits κs qs m c u r e = ends 𝓤 H 𝓜 𝓖 𝓡 element.ended (element.clauses 𝓤 H) (case κs qs m c) u r (tt, (tt, tt)) (shown ! e)
 
   walk : Walk 𝓤 H 𝓜 𝓖 𝓡 element.ended (element.clauses 𝓤 H) code.env code.function params

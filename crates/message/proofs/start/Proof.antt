@@ -1,9 +1,9 @@
 -- `message::start` meets its contract: the message is put into a reader, with 0 for how far it has come.
 use mathlib.Core.Path.{refl}
-use Prim.Native.Nat.{ℕ}
-use mathlib.Core.List.{List, [], _∷_}
+use mathlib.Core.List.{[], _∷_}
 use lib.Dec.{lit<}
 use denote.Ref.{RefT}
+use Rattle.octets.specs.Bytes.{Bytes}
 use Rattle.message.proofs.Walk.{URA, Model, Heap, Lfts, Shares, Running, GhostRules, ‵, _$_, !, by, move, use1, agg, look, init, stop, from, lit, and-then, no-more, assigns, returns, alloc1, alloc0, params1, pass1, pass0, free0, rules, Params, Case, Exits, ends, shown, Walk, reaches, local, gone}
 use Rattle.message.proofs.Held.{Lent, bytes, Own, reader, lent, lent-fits, starts, lowered}
 use Rattle.message.proofs.start as start
@@ -15,10 +15,10 @@ abbrev params : (κs : Lfts 1) → Params (Lent (κs .0) ∷ [])
 params κs = (lent (κs .0), tt)
 
 module _ {M : Type 1} (𝓤 : URA M) (H : Heap 𝓤) (𝓜 : Model 𝓤 H) (𝓖 : GhostRules 𝓤 H) (𝓡 : Running 𝓤 H 𝓜) where
-  abbrev case : Lfts 1 → Shares 1 → RefT (List ℕ) → Case 𝓤 H 𝓜 𝓖 𝓡 start.ended (start.clauses 𝓤 H)
+  abbrev case : Lfts 1 → Shares 1 → RefT Bytes → Case 𝓤 H 𝓜 𝓖 𝓡 start.ended (start.clauses 𝓤 H)
   case κs qs m = ((κs, qs, tt, (m, tt), (bytes m ∷ [], tt)), tt)
 
-  exits : (κs : Lfts 1) (qs : Shares 1) (m : RefT (List ℕ)) → Exits 𝓤 H 𝓜 𝓖 𝓡 start.ended (start.clauses 𝓤 H) (case κs qs m) (lowered (reader m 0)) (reader m 0)
+  exits : (κs : Lfts 1) (qs : Shares 1) (m : RefT Bytes) → Exits 𝓤 H 𝓜 𝓖 𝓡 start.ended (start.clauses 𝓤 H) (case κs qs m) (lowered (reader m 0)) (reader m 0)
   exits κs qs m = ends 𝓤 H 𝓜 𝓖 𝓡 start.ended (start.clauses 𝓤 H) (case κs qs m) (lowered (reader m 0)) (reader m 0) (tt, tt) (shown ! (refl, refl))
 
   walk : Walk 𝓤 H 𝓜 𝓖 𝓡 start.ended (start.clauses 𝓤 H) code.env code.function params

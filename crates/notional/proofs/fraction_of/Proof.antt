@@ -1,13 +1,14 @@
 -- `notional::fraction_of` meets its contract. The invariant: n is what the first k decimals spell. Assumes nothing.
-use Prim.Native.Nat.{ℕ, _-_, _^_, _≤_, _<_}
+use Prim.Native.Nat.{_-_, _^_, _≤_, _<_}
 use Prim.Native.Char.{code}
 use mathlib.Core.Path.{_≡_, sym, ap, _∙_}
-use mathlib.Core.List.{List, _++_}
+use mathlib.Core.List.{_++_}
 use native.Mathlib.Nat.{pow-le-pow-right}
 use native.Mathlib.Omega.{arith}
 use borrow.Author.Needs.{needs}
 use denote.Ref.{now}
 use lib.ListN.{length, getD, take, replicate, length-append}
+use Rattle.octets.specs.Bytes.{Bytes}
 use Rattle.numbers.specs.Numbers.{notionalDecimals}
 use Rattle.notional.specs.Amount.{unit, digit, spelled, fraction}
 use Rattle.notional.proofs.AmountLaws.{spelled-more, digits-fit, digit-padded}
@@ -54,7 +55,7 @@ unfolding fraction
 returns c =
     let l = c .before .loop in
     let e : l .k ≡ notionalDecimals = omega arith in (
-      rw e at (l .inv .2) ∙ ap (λ (s : List ℕ). spelled 0 (take notionalDecimals (s ++ replicate notionalDecimals (code "0")))) (c .before .before .decimals-of .ensures),
+      rw e at (l .inv .2) ∙ ap (λ (s : Bytes). spelled 0 (take notionalDecimals (s ++ replicate notionalDecimals (code "0")))) (c .before .before .decimals-of .ensures),
       rw e at (l .inv .1),
     )
 

@@ -1,12 +1,12 @@
 -- `notional::whole_units` meets its contract. The invariant: n is what the first k digits spell, or just above the largest cap. Assumes nothing.
-use Prim.Native.Nat.{ℕ, _+_, _-_, _≤_, _<_, min}
-use mathlib.Core.List.{List}
+use Prim.Native.Nat.{_+_, _-_, _≤_, _<_, min}
 use mathlib.Core.Path.{_≡_, ap, _∙_}
 use native.Mathlib.Omega.{arith}
 use borrow.Author.Needs.{needs}
 use denote.Ref.{now}
 use lib.ListN.{length, getD, take}
 use lib.Seq.{take-all}
+use Rattle.octets.specs.Bytes.{Bytes}
 use Rattle.notional.specs.Amount.{digit, spelled}
 use Rattle.notional.specs.Masking.{largestCap}
 use Rattle.notional.proofs.AmountLaws.{spelled-more}
@@ -36,7 +36,7 @@ returns c =
     let w = now (c .before .before .whole-of .result) in
     let l = c .before .loop in
     let all : take (l .k) w ≡ w = take-all (l .k) w (omega arith) in
-    l .inv .1 ∙ ap (λ (s : List ℕ). min (spelled 0 s) (largestCap + 1)) (all ∙ c .before .before .whole-of .ensures)
+    l .inv .1 ∙ ap (λ (s : Bytes). min (spelled 0 s) (largestCap + 1)) (all ∙ c .before .before .whole-of .ensures)
 
 pub whole-units-spec : {M : Type 1} → statement M
 whole-units-spec =

@@ -3,7 +3,6 @@ use borrow.Author.Needs.{needs}
 use Prim.Native.Nat.{ℕ, _-_, _<_, _≤_}
 use Prim.Native.Char.{code}
 use mathlib.Core.Bool.{Bool}
-use mathlib.Core.List.{List}
 use mathlib.Core.Path.{_≡_, sym, _∙_}
 use native.Mathlib.Nat.{sub-zero}
 use native.Mathlib.Omega.{arith}
@@ -11,13 +10,14 @@ use borrow.Author.Tests.{eq-eqb, ne-eqb}
 use lib.ListN.{length, getD}
 use lib.Dec.{eqb}
 use denote.Ref.{now}
+use Rattle.octets.specs.Bytes.{Bytes}
 use Rattle.octets.specs.Search.{firstFrom}
 use Rattle.octets.proofs.SearchLaws.{first-more, first-stop, first-end}
 use Rattle.numbers.specs.Numbers.{pointIn}
 use Rattle.numbers.proofs.point_in.Statement.{statement}
 use Rattle.numbers.proofs.point_in.Tie as tie
 
-abbrev Is : List ℕ → ℕ → Bool
+abbrev Is : Bytes → ℕ → Bool
 Is v k = eqb (getD v k 0) (code ".")
 
 abbrev Inv-loop : tie.InvT-loop

@@ -1,13 +1,13 @@
 -- `octets::place_in` meets its contract. The invariant: what is found from k on is what is found. Assumes nothing.
 use Prim.Native.Nat.{ℕ, _-_, _*_, _≤_}
 use mathlib.Core.Bool.{Bool}
-use mathlib.Core.List.{List}
 use mathlib.Core.Path.{_≡_, sym, ap, _∙_}
 use native.Mathlib.Omega.{arith}
 use native.Mathlib.Nat.{mul-le-mul-right, sub-zero}
 use borrow.Author.Needs.{needs}
 use denote.Ref.{now}
 use lib.ListN.{length}
+use Rattle.octets.specs.Bytes.{Bytes}
 use Rattle.octets.specs.Part.{part}
 use Rattle.octets.specs.Search.{firstFrom}
 use Rattle.octets.specs.Same.{sameBytes, placeAmong}
@@ -15,7 +15,7 @@ use Rattle.octets.proofs.SearchLaws.{first-more, first-stop, first-end}
 use Rattle.octets.proofs.place_in.Statement.{statement}
 use Rattle.octets.proofs.place_in.Tie as tie
 
-abbrev Is : List ℕ → List ℕ → ℕ → ℕ → Bool
+abbrev Is : Bytes → Bytes → ℕ → ℕ → Bool
 Is v codes width k = sameBytes v (part codes (k * width) width)
 
 abbrev Inv-loop : tie.InvT-loop

@@ -1,14 +1,15 @@
 -- `octets::same_words` meets its contract. The invariant: from i on the bytes are the same. Assumes nothing.
-use Prim.Native.Nat.{ℕ, _+_, _-_, _<_, _≤_}
-use mathlib.Core.Path.{_≡_, refl, sym, ap, ap₂, _∙_}
-use mathlib.Core.List.{List, _++_}
+use Prim.Native.Nat.{ℕ, _+_, _-_, _≤_}
+use mathlib.Core.Path.{_≡_, sym, ap, ap₂, _∙_}
+use mathlib.Core.List.{_++_}
 use native.Mathlib.Omega.{arith}
 use lib.ListN.{length, take, drop, length-take, length-drop, take-append-drop}
 use lib.Seq.{drop-drop}
 use denote.Ref.{now}
+use Rattle.octets.specs.Bytes.{Bytes}
 use Rattle.octets.specs.Number.{fromLe}
 use Rattle.octets.proofs.SameLaws.{same-false, ends-same}
-use Rattle.octets.proofs.NumberLaws.{Bytes, fromLe-same, part-bytes}
+use Rattle.octets.proofs.NumberLaws.{EachByte, fromLe-same, part-bytes}
 use borrow.Author.Needs.{needs}
 use Rattle.octets.proofs.same_words.Statement.{statement}
 use Rattle.octets.proofs.same_words.Tie as tie
@@ -20,7 +21,7 @@ abbrev μ-loop : tie.MeasureT-loop
 μ-loop a b i₀ i = i
 
 -- the same word before bytes that are the same
-word-more : (a b : List ℕ) (at n i : ℕ) → at + n ≡ i → length a ≡ length b → Bytes a → Bytes b → fromLe (take n (drop at a)) ≡ fromLe (take n (drop at b)) → drop i a ≡ drop i b → drop at a ≡ drop at b
+word-more : (a b : Bytes) (at n i : ℕ) → at + n ≡ i → length a ≡ length b → EachByte a → EachByte b → fromLe (take n (drop at a)) ≡ fromLe (take n (drop at b)) → drop i a ≡ drop i b → drop at a ≡ drop at b
 word-more a b at n i s l f g e r =
     let lengths : length (take n (drop at a)) ≡ length (take n (drop at b)) = omega (arith, length-take n (drop at a), length-take n (drop at b), length-drop at a, length-drop at b) in
     let word : take n (drop at a) ≡ take n (drop at b) = fromLe-same (take n (drop at a)) (take n (drop at b)) lengths (part-bytes a at n f) (part-bytes b at n g) e in
@@ -36,7 +37,7 @@ returns : tie.Need-returns Inv-loop μ-loop
 returns c =
     let l = c .before .before .before .before .before .before .loop in
     let at : ℕ = l .i - 8 in
-    sym (same-false _ _ (λ e. c .if1 .taken (c .before .before .before .read-le .ensures .0 ∙ ap (λ (xs : List ℕ). fromLe (take (l .i - at) (drop at xs))) e ∙ sym (c .before .read-le2 .ensures .0))))
+    sym (same-false _ _ (λ e. c .if1 .taken (c .before .before .before .read-le .ensures .0 ∙ ap (λ (xs : Bytes). fromLe (take (l .i - at) (drop at xs))) e ∙ sym (c .before .read-le2 .ensures .0))))
 
 loop-again : tie.Need-loop-again Inv-loop μ-loop
 loop-again c =

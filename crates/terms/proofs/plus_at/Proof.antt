@@ -4,7 +4,7 @@ use denote.Ref.{now}
 use Rattle.octets.specs.Part.{splice}
 use Rattle.octets.specs.Field.{field}
 use Rattle.octets.specs.Text.{text}
-use Rattle.terms.specs.Terms.{plusText}
+use Rattle.terms.specs.Terms.{markSize, plusText}
 use borrow.Author.Needs.{needs}
 use Rattle.terms.proofs.plus_at.Statement.{statement}
 use Rattle.terms.proofs.plus_at.Tie as tie
@@ -13,13 +13,13 @@ returns : tie.Need-returns
 unfolding plusText text
 returns c =
     let a = c .before .before .before .before .before .before .before .args in
-    c .before .before .field-at .ensures ∙ ap (λ p. splice (now (a .dst)) (a .at) (field 1 (plusText p))) (sym (c .before .before .before .before .before .if1 .taken))
+    c .before .before .field-at .ensures ∙ ap (λ p. splice (now (a .dst)) (a .at) (field markSize (plusText p))) (sym (c .before .before .before .before .before .if1 .taken))
 
 returns-2 : tie.Need-returns-2
 unfolding plusText field
 returns-2 c =
     let a = c .before .before .before .before .before .before .args in
-    c .before .before .fill-at .ensures ∙ ap (λ p. splice (now (a .dst)) (a .at) (field 1 (plusText p))) (sym (c .before .before .before .before .if1 .left))
+    c .before .before .fill-at .ensures ∙ ap (λ p. splice (now (a .dst)) (a .at) (field markSize (plusText p))) (sym (c .before .before .before .before .if1 .left))
 
 pub plus-at-spec : {M : Type 1} → statement M
 plus-at-spec =

@@ -10,14 +10,13 @@ use Rattle.elements.specs.Codes.{notionalAmount}
 use Rattle.elements.specs.Conditions.{kept}
 use Rattle.notional.specs.Amount.{amount}
 use Rattle.notional.specs.Masking.{over, shown}
-use Rattle.terms.specs.Terms.{notionalSize, plusText, notionalFields}
+use Rattle.terms.specs.Terms.{markSize, notionalSize, plusText}
 use Rattle.octets.proofs.FieldRun.{then-written, last-written}
 use borrow.Author.Needs.{needs}
 use Rattle.terms.proofs.write_notional.Statement.{statement}
 use Rattle.terms.proofs.write_notional.Tie as tie
 
 returns : tie.Need-returns
-unfolding notionalFields
 returns c =
     let fourth = c .before .before .before .before in
     let third = fourth .before .before .before .before in
@@ -29,7 +28,7 @@ returns c =
     let units = mask .ensures .0 ∙ ap (λ v. shown (a .cap) (amount v)) value in
     let plus = mask .ensures .1 ∙ ap (λ v. over (a .cap) (amount v)) value in
     let text : digits notionalSize (mask .result .units) ≡ field notionalSize (digits notionalSize (shown (a .cap) (amount (kept notionalAmount (now (a .m)))))) = ap (digits notionalSize) units ∙ sym (field-exact notionalSize _ (length-digits notionalSize _)) in
-    then-written _ _ _ _ (first .before .before .text-at .ensures) (then-written _ _ _ _ (second .before .before .digits-at .ensures ∙ ap (splice _ _) text) (then-written _ _ _ _ (third .before .before .plus-at .ensures ∙ ap (splice _ _) (ap (λ p. field 1 (plusText p)) plus)) (then-written _ _ _ _ (fourth .before .before .text-at2 .ensures) (last-written _ _ _ (c .before .before .text-at3 .ensures)))))
+    then-written _ _ _ _ (first .before .before .text-at .ensures) (then-written _ _ _ _ (second .before .before .digits-at .ensures ∙ ap (splice _ _) text) (then-written _ _ _ _ (third .before .before .plus-at .ensures ∙ ap (splice _ _) (ap (λ p. field markSize (plusText p)) plus)) (then-written _ _ _ _ (fourth .before .before .text-at2 .ensures) (last-written _ _ _ (c .before .before .text-at3 .ensures)))))
 
 pub write-notional-spec : {M : Type 1} → statement M
 write-notional-spec =

@@ -1,12 +1,10 @@
 -- `terms::write_package` meets its contract. Assumes nothing.
-use Rattle.terms.specs.Terms.{priceFields}
 use Rattle.octets.proofs.FieldRun.{then-written, last-written}
 use borrow.Author.Needs.{needs}
 use Rattle.terms.proofs.write_package.Statement.{statement}
 use Rattle.terms.proofs.write_package.Tie as tie
 
 returns : tie.Need-returns
-unfolding priceFields
 returns c =
     let second = c .before .before .before .before in
     let first = second .before .before .before .before in

@@ -3,14 +3,16 @@ use Prim.Native.Nat.{_+_}
 use mathlib.Core.Bool.{false}
 use Rattle.octets.specs.Text.{text}
 use Rattle.actions.specs.Matrix.{noEvent, tick}
-use Rattle.actions.proofs.TableLaws.{numbers, table, action-table-at}
+use Rattle.actions.proofs.TableLaws.{numbers, table-at}
 use borrow.Author.Needs.{needs}
 use Rattle.actions.proofs.matrix.has_tick.Statement.{statement}
 use Rattle.actions.proofs.matrix.has_tick.Tie as tie
 
 returns : tie.Need-returns
-unfolding numbers table tick text
-returns c = rw (c .before .row-of .ensures .0) (action-table-at tick (noEvent + 1) (c .before .before .args .a) (c .before .before .args .column) false (search needs))
+unfolding numbers tick text
+returns c =
+    let row = c .before .row-of .ensures in
+    table-at tick (noEvent + 1) (c .before .row-of .result .place) (c .before .before .args .a) (c .before .before .args .column) false (row .0) (row .1) (search needs)
 
 pub has-tick-spec : {M : Type 1} → statement M
 has-tick-spec =

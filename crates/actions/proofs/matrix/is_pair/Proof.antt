@@ -8,7 +8,8 @@ use Rattle.octets.specs.Text.{text}
 use Rattle.octets.specs.Same.{place, oneOf}
 use Rattle.octets.proofs.SameLaws.{row, wide, among}
 use Rattle.values.specs.Limits.{eventSize}
-use Rattle.actions.specs.Matrix.{events, noEvent, tick, pairAllowed}
+use Rattle.actions.specs.Table.{events}
+use Rattle.actions.specs.Matrix.{noEvent, tick, pairAllowed}
 use borrow.Author.Needs.{needs}
 use Rattle.actions.proofs.matrix.is_pair.Statement.{statement}
 use Rattle.actions.proofs.matrix.is_pair.Tie as tie

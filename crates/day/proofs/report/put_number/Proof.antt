@@ -1,10 +1,11 @@
 -- `day::report::put_number` meets its contract. Assumes nothing.
 use Prim.Native.Nat.{ℕ, _+_}
 use mathlib.Core.Path.{_≡_, ap, subst}
-use mathlib.Core.List.{List, [], _∷_, _++_}
+use mathlib.Core.List.{[], _∷_, _++_}
 use native.Mathlib.Omega.{arith}
 use borrow.Author.Needs.{needs}
 use denote.Ref.{now}
+use Rattle.octets.specs.Bytes.{Bytes}
 use Rattle.octets.specs.Number.{digits}
 use Rattle.octets.proofs.NumberLaws.{length-digits}
 use Rattle.day.specs.Report.{decimal, Put}
@@ -20,7 +21,7 @@ returns c =
     let k = p .before .before in
     let a = k .before .before .args in
     let shown : digits (k .digit-count .result) (a .n) ≡ decimal (a .n) = ap (λ (j : ℕ). digits j (a .n)) (k .digit-count .ensures .0 .0) in (
-      subst (λ (ys : List ℕ). Put (now (a .out)) (a .at) (ys ++ (a .end ∷ [])) (f .fill-at .last .0) (a .at + k .digit-count .result + 1)) shown
+      subst (λ (ys : Bytes). Put (now (a .out)) (a .at) (ys ++ (a .end ∷ [])) (f .fill-at .last .0) (a .at + k .digit-count .result + 1)) shown
           (put-end (now (a .out)) _ (a .at) _ (a .end) (length-digits _ (a .n)) (omega arith) (p .digits-at .ensures) (f .fill-at .ensures)),
       omega arith,
     )

@@ -1,12 +1,12 @@
 -- `dayrun::judging::judge_next` meets its contract. Assumes nothing.
 use Prim.Native.Nat.{ℕ, _+_, _-_, _≤_, _<_}
 use mathlib.Core.Path.{_≡_, sym, ap, _∙_, subst}
-use mathlib.Core.List.{List}
 use native.Mathlib.Omega.{arith}
 use borrow.Author.Needs.{needs}
 use lib.ListN.{length, take, drop, length-drop}
 use lib.Seq.{take-all}
 use denote.Ref.{now}
+use Rattle.octets.specs.Bytes.{Bytes}
 use Rattle.octets.specs.Part.{part, splice}
 use Rattle.octets.proofs.PartLaws.{splice-none}
 use Rattle.submission.specs.Opening.{documentLimits}
@@ -27,21 +27,21 @@ abbrev start : tie.After-next-frame → tie.Start
 start c = c .before .before .before .before .before .before
 
 -- what is left of the input
-abbrev rest : tie.After-next-frame → List ℕ
+abbrev rest : tie.After-next-frame → Bytes
 rest c = drop (start c .args .p .at) (now (start c .args .input))
 
 -- the slice that is lent of it is all of it
-all-lent : (xs : List ℕ) (at : ℕ) → take (length xs - at) (drop at xs) ≡ drop at xs
+all-lent : (xs : Bytes) (at : ℕ) → take (length xs - at) (drop at xs) ≡ drop at xs
 all-lent xs at = take-all (length xs - at) (drop at xs) (omega (arith, length-drop at xs))
 
 front : (c : tie.After-next-frame) → c .next-frame .result ≡ frameOf (documentLimits .longest) (rest c)
 front c = c .next-frame .ensures .0 ∙ ap (frameOf (documentLimits .longest)) (all-lent (now (start c .args .input)) (start c .args .p .at))
 
 fits : (c : tie.After-next-frame) → Fits (rest c) (c .next-frame .result)
-fits c = subst (λ (xs : List ℕ). Fits xs (c .next-frame .result)) (all-lent (now (start c .args .input)) (start c .args .p .at)) (c .next-frame .ensures .1)
+fits c = subst (λ (xs : Bytes). Fits xs (c .next-frame .result)) (all-lent (now (start c .args .input)) (start c .args .p .at)) (c .next-frame .ensures .1)
 
 -- the message, or the one that is too long, lies within the input
-lies-within : (xs : List ℕ) (at n : ℕ) → at ≤ length xs → n ≤ length (drop at xs) → at + n ≤ length xs
+lies-within : (xs : Bytes) (at n : ℕ) → at ≤ length xs → n ≤ length (drop at xs) → at + n ≤ length xs
 lies-within xs at n h l = omega (arith, h, l, length-drop at xs)
 
 message-fits : (c : tie.After-n) → start (c .before .before) .args .p .at + (lengthSize + c .n .given .0 .0) ≤ length (now (start (c .before .before) .args .input))
@@ -71,17 +71,17 @@ returns c =
     let f = n .before .before in
     let a = start f .args in
     let size = n .n .given .0 .0 in
-    let judged : List ℕ → Submitted = λ x. submitted documentLimits (lentOf (now (a .ledger)) (now (a .tape))) x in
+    let judged : Bytes → Submitted = λ x. submitted documentLimits (lentOf (now (a .ledger)) (now (a .tape))) x in
     let sent : now (m .part-of .result) ≡ part (rest f) lengthSize size =
-    m .part-of .ensures .0 ∙ ap (λ (xs : List ℕ). part xs lengthSize size) (all-lent (now (a .input)) (a .p .at)) in
+    m .part-of .ensures .0 ∙ ap (λ (xs : Bytes). part xs lengthSize size) (all-lent (now (a .input)) (a .p .at)) in
     let told : stepAt (lentOf (now (a .ledger)) (now (a .tape))) (now (a .input)) (a .p) ≡ answered (dayOf (lentOf (now (a .ledger)) (now (a .tape))) (a .p)) size (judged (part (rest f) lengthSize size)) =
     step-on _ (rest f) (Message size) (sym (front f) ∙ n .n .given .1) in
-    let same : k .submit .result ≡ submissionAnswer (judged (part (rest f) lengthSize size)) = k .submit .ensures .0 ∙ ap (λ (x : List ℕ). submissionAnswer (judged x)) sent in (
+    let same : k .submit .result ≡ submissionAnswer (judged (part (rest f) lengthSize size)) = k .submit .ensures .0 ∙ ap (λ (x : Bytes). submissionAnswer (judged x)) sent in (
       r .report .ensures .0 ∙ told-progress _ (rest f) (a .p) size _ told _ same,
       (
         r .report .ensures .1 .0 ∙ ap (splice (now (a .out)) (a .p .used)) (told-line _ (rest f) (a .p) size _ told _ same),
         (
-          k .submit .ensures .1 ∙ ap (λ (x : List ℕ). judged x .lent) sent ∙ ap (λ (x : Step). x .after .lent) (sym told),
+          k .submit .ensures .1 ∙ ap (λ (x : Bytes). judged x .lent) sent ∙ ap (λ (x : Step). x .after .lent) (sym told),
           (one-further _ (lengthSize + size) (a .p) _ (message-fits n) (omega arith) (start f .pre .1 .1 .1) (r .report .ensures .1 .1), judged-at-once),
         ),
       ),

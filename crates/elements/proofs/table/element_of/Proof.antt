@@ -3,7 +3,6 @@ use Prim.Native.Nat.{ℕ, zero, suc, _<_}
 use mathlib.Core.Path.{_≡_, refl, sym, _∙_}
 use native.Mathlib.Omega.{arith}
 use lib.ListN.{List·getD-eq-default}
-use Rattle.elements.specs.declared.table.Element.{Element}
 use Rattle.elements.specs.Table.{noElement, elements, elementOf, lastCode}
 use Rattle.elements.proofs.table.element_of.Statement.{statement}
 use Rattle.elements.proofs.table.element_of.Tie as tie

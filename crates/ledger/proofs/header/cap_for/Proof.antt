@@ -2,10 +2,10 @@
 use borrow.Author.Needs.{needs}
 use Prim.Native.Nat.{ℕ}
 use mathlib.Core.Path.{_≡_, sym, _∙_}
-use mathlib.Core.List.{List}
 use lib.Dec.{lit<}
 use lib.ListN.{drop}
 use denote.Ref.{now}
+use Rattle.octets.specs.Bytes.{Bytes}
 use Rattle.octets.specs.Text.{text}
 use Rattle.octets.specs.Same.{beside}
 use Rattle.octets.proofs.SameLaws.{beside-is, beside-not}
@@ -14,23 +14,23 @@ use Rattle.ledger.specs.Header.{classCaps, capFor}
 use Rattle.ledger.proofs.header.cap_for.Statement.{statement}
 use Rattle.ledger.proofs.header.cap_for.Tie as tie
 
-rest : ℕ → Caps → List ℕ → ℕ
+rest : ℕ → Caps → Bytes → ℕ
 rest k caps v = beside (drop k (classCaps caps)) 0 v
 
 -- caps and class, at each place
-abbrev a1 : (c : tie.Else1) → Caps × List ℕ
+abbrev a1 : (c : tie.Else1) → Caps × Bytes
 a1 c = (c .before .before .before .before .args .caps, now (c .before .before .before .before .args .class))
 
-abbrev a2 : (c : tie.Else2) → Caps × List ℕ
+abbrev a2 : (c : tie.Else2) → Caps × Bytes
 a2 c = a1 (c .before .before .before)
 
-abbrev a3 : (c : tie.Else3) → Caps × List ℕ
+abbrev a3 : (c : tie.Else3) → Caps × Bytes
 a3 c = a2 (c .before .before .before)
 
-abbrev a4 : (c : tie.Else4) → Caps × List ℕ
+abbrev a4 : (c : tie.Else4) → Caps × Bytes
 a4 c = a3 (c .before .before .before)
 
-abbrev a5 : (c : tie.Else5) → Caps × List ℕ
+abbrev a5 : (c : tie.Else5) → Caps × Bytes
 a5 c = a4 (c .before .before .before)
 
 passed1 : (c : tie.Else1) → capFor (a1 c .0) (a1 c .1) ≡ rest 1 (a1 c .0) (a1 c .1)

@@ -5,16 +5,15 @@ use lib.Dec.{eqb, leb}
 use lib.ListN.{length}
 use denote.Ref.{now}
 use borrow.Author.Tests.{le-leb, lt-leb, eq-eqb, ne-eqb}
+use Rattle.octets.specs.Bytes.{Bytes}
 use Rattle.ledger.specs.Layout.{headerSize, rowSize, shortestLedger, identifierLimit}
-use mathlib.Core.List.{List}
-use Prim.Native.Nat.{ℕ}
 use Rattle.ledger.specs.Header.{rowsInUse, firstRow, nextIdentifier, sizeOfRows, capacityIn, capsIn, areCaps, capacityFor, headerOf, headerRight}
 use Rattle.ledger.specs.declared.header.Header.{Header}
 use borrow.Author.Needs.{needs}
 use Rattle.ledger.proofs.header.is_right.Statement.{statement}
 use Rattle.ledger.proofs.header.is_right.Tie as tie
 
-abbrev l : tie.Start → List ℕ
+abbrev l : tie.Start → Bytes
 l c = now (c .args .l)
 
 -- the numbers that the ledger was read into

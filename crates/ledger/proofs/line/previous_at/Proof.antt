@@ -4,7 +4,7 @@ use Rattle.octets.specs.Part.{splice}
 use Rattle.octets.specs.Field.{field}
 use Rattle.octets.proofs.NumberLaws.{length-digits}
 use Rattle.octets.proofs.FieldLaws.{field-exact}
-use Rattle.ledger.specs.Layout.{identifierDigits}
+use Rattle.ledger.specs.Line.{identifierDigits}
 use borrow.Author.Needs.{needs}
 use Rattle.ledger.proofs.line.previous_at.Statement.{statement}
 use Rattle.ledger.proofs.line.previous_at.Tie as tie

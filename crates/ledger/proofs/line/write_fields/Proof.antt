@@ -1,17 +1,14 @@
 -- `ledger::line::write_fields` meets its contract. Assumes nothing.
 use mathlib.Core.Path.{refl}
 use Rattle.octets.proofs.NumberLaws.{length-digits}
-use Rattle.octets.proofs.FieldRun.{then-written}
-use Rattle.ledger.specs.Layout.{identifierDigits}
-use Rattle.ledger.specs.Line.{lineFields}
-use Rattle.octets.proofs.FieldRun.{then-exact, last-exact}
+use Rattle.octets.proofs.FieldRun.{then-written, then-exact, last-exact}
+use Rattle.ledger.specs.Line.{identifierDigits}
 use Rattle.ledger.proofs.LineLaws.{line-written}
 use borrow.Author.Needs.{needs}
 use Rattle.ledger.proofs.line.write_fields.Statement.{statement}
 use Rattle.ledger.proofs.line.write_fields.Tie as tie
 
 returns : tie.Need-returns
-unfolding lineFields
 returns c =
     let seventh = c .before .before in
     let sixth = seventh .before .before .before .before in

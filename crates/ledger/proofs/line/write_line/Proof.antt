@@ -6,6 +6,7 @@ use lib.Seq.{length-take-le}
 use Rattle.octets.proofs.PartLaws.{lent-back}
 use Rattle.ledger.specs.Layout.{lineSize}
 use Rattle.ledger.proofs.LineLaws.{length-line}
+use Rattle.ledger.proofs.DocumentLaws.{document-sizes}
 use borrow.Author.Needs.{needs}
 use Rattle.ledger.proofs.line.write_line.Statement.{statement}
 use Rattle.ledger.proofs.line.write_line.Tie as tie
@@ -21,7 +22,7 @@ write-fields-requires : tie.Need-write-fields-requires
 write-fields-requires c κs = (lent c, search needs)
 
 returns : tie.Need-returns
-returns c = lent-back _ _ _ 0 lineSize (c .before .before .write-fields .ensures) (length-line _ _ _ _ _)
+returns c = (lent-back _ _ _ 0 lineSize (c .before .before .write-fields .ensures) (length-line _ _ _ _ _), document-sizes)
 
 pub write-line-spec : {M : Type 1} → statement M
 write-line-spec =

@@ -2,13 +2,11 @@
 use Rattle.octets.proofs.NumberLaws.{length-toLe}
 use Rattle.octets.proofs.FieldRun.{then-exact, last-exact}
 use Rattle.ledger.specs.Layout.{u64}
-use Rattle.ledger.specs.Header.{capFields}
 use borrow.Author.Needs.{needs}
 use Rattle.ledger.proofs.opening.write_caps.Statement.{statement}
 use Rattle.ledger.proofs.opening.write_caps.Tie as tie
 
 returns : tie.Need-returns
-unfolding capFields
 returns c =
     let fifth = c .before .before in
     let fourth = fifth .before .before .before .before in

@@ -1,17 +1,14 @@
 -- `ledger::rows::write_row` meets its contract. Assumes nothing.
 use mathlib.Core.Path.{refl}
 use Rattle.octets.proofs.NumberLaws.{length-toLe}
-use Rattle.octets.proofs.FieldRun.{then-written}
+use Rattle.octets.proofs.FieldRun.{then-written, then-exact, last-exact}
 use Rattle.ledger.specs.Layout.{u64}
-use Rattle.ledger.specs.Rows.{rowFields}
 use Rattle.ledger.proofs.RowAfterLaws.{row-written}
-use Rattle.octets.proofs.FieldRun.{then-exact, last-exact}
 use borrow.Author.Needs.{needs}
 use Rattle.ledger.proofs.rows.write_row.Statement.{statement}
 use Rattle.ledger.proofs.rows.write_row.Tie as tie
 
 returns : tie.Need-returns
-unfolding rowFields
 returns c =
     let sixth = c .before .before in
     let fifth = sixth .before .before .before .before in

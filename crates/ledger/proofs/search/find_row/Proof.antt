@@ -1,6 +1,5 @@
 -- `ledger::search::find_row` meets its contract. The invariant: the place is the first that has the UTI among those from k on. Assumes nothing.
 use mathlib.Core.Bool.{Bool, true, false}
-use mathlib.Core.List.{List}
 use mathlib.Core.Path.{_≡_, sym, _∙_}
 use Prim.Native.Nat.{ℕ, _-_, _<_, _≤_}
 use native.Mathlib.Nat.{sub-zero}
@@ -9,13 +8,14 @@ use borrow.Author.Needs.{needs}
 use borrow.Author.Tests.{eq-eqb, ne-eqb}
 use lib.ListN.{length}
 use denote.Ref.{now}
+use Rattle.octets.specs.Bytes.{Bytes}
 use Rattle.octets.specs.Search.{firstFrom}
 use Rattle.octets.proofs.SearchLaws.{first-more, first-stop, first-end}
 use Rattle.ledger.specs.Rows.{rowAt, utiLength, hasBytes, holdsUti, placeIn}
 use Rattle.ledger.proofs.search.find_row.Statement.{statement}
 use Rattle.ledger.proofs.search.find_row.Tie as tie
 
-abbrev Holds : List ℕ → List ℕ → ℕ → Bool
+abbrev Holds : Bytes → Bytes → ℕ → Bool
 Holds l uti k = holdsUti uti (rowAt l k)
 
 abbrev Inv-loop : tie.InvT-loop
@@ -25,11 +25,11 @@ abbrev μ-loop : tie.MeasureT-loop
 μ-loop l rows uti n k₀ k = rows - k
 
 -- what the two tests of row k tell of it
-other-length : (l uti : List ℕ) (k : ℕ) → (utiLength (rowAt l k) ≡ length uti → ⊥) → Holds l uti k ≡ false
+other-length : (l uti : Bytes) (k : ℕ) → (utiLength (rowAt l k) ≡ length uti → ⊥) → Holds l uti k ≡ false
 unfolding holdsUti
 other-length l uti k h = rw (ne-eqb _ _ h)
 
-by-bytes : (l uti : List ℕ) (k : ℕ) (t : Bool) → utiLength (rowAt l k) ≡ length uti → hasBytes uti (rowAt l k) ≡ t → Holds l uti k ≡ t
+by-bytes : (l uti : Bytes) (k : ℕ) (t : Bool) → utiLength (rowAt l k) ≡ length uti → hasBytes uti (rowAt l k) ≡ t → Holds l uti k ≡ t
 unfolding holdsUti
 by-bytes l uti k t h e = rw (eq-eqb _ _ h) e
 

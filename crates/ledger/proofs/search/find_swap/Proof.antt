@@ -1,9 +1,8 @@
 -- `ledger::search::find_swap` meets its contract. Assumes nothing.
-use mathlib.Core.List.{List}
 use mathlib.Core.Path.{_≡_, ap, _∙_}
-use Prim.Native.Nat.{ℕ}
 use native.Mathlib.Omega.{arith}
 use denote.Ref.{now}
+use Rattle.octets.specs.Bytes.{Bytes}
 use Rattle.ledger.specs.Rows.{placeIn, placeOf}
 use Rattle.ledger.proofs.SwapLaws.{swap-unknown, swap-known}
 use borrow.Author.Needs.{needs}
@@ -13,7 +12,7 @@ use Rattle.ledger.proofs.search.find_swap.Tie as tie
 abbrev start : tie.After-find-row → tie.Start
 start c = c .before .before .before
 
-abbrev l : tie.After-find-row → List ℕ
+abbrev l : tie.After-find-row → Bytes
 l c = now (start c .args .l)
 
 place : (c : tie.After-find-row) → c .find-row .result ≡ placeOf (l c) (now (start c .args .uti))

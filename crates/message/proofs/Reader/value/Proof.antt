@@ -1,11 +1,11 @@
 -- `message::value` meets its contract: the reader's lent bytes and how far it has come are handed to `value_at`, and so is its answer.
 use mathlib.Core.Path.{refl}
-use Prim.Native.Nat.{ℕ}
-use mathlib.Core.List.{List, [], _∷_}
+use mathlib.Core.List.{[], _∷_}
 use mir.Syntax.{w64}
 use mir.Val.{Val, vint}
 use denote.Ref.{RefT}
 use denote.Signature.{namedLft}
+use Rattle.octets.specs.Bytes.{Bytes}
 use Rattle.message.specs.declared.Reader.{Reader}
 use Rattle.message.proofs.Walk.{URA, id⊢, Model, Heap, Lfts, Shares, Running, GhostRules, ‵, _⊛_, _$_, !, by, move, drop, use1, split, fsplit, look, init, stop, from, and-then, no-more, assigns, land, returns, alloc1, alloc0, params1, pass1, pass0, free0, rules, Params, Case, Exits, ends, shown, Walk, reaches, calls, local, field-of, gone}
 use Rattle.message.proofs.Held.{Held, Valued, bytes, Own, Lending, Fits, held, lent-fits, reader-fits, lends, lowered}
@@ -26,7 +26,7 @@ module _ {M : Type 1} (𝓤 : URA M) (H : Heap 𝓤) (𝓜 : Model 𝓤 H) (𝓖
   abbrev call : (κs : Lfts 1) (qs : Shares 1) (d : Reader) → Case 𝓤 H 𝓜 𝓖 𝓡 value_at.ended (value_at.clauses 𝓤 H)
   call κs qs d = ((κs, qs, tt, (d .src, (d .at, tt)), (bytes (d .src) ∷ [], (vint w64 (d .at) ∷ [], tt))), tt)
 
-  exits : (κs : Lfts 1) (qs : Shares 1) (d : Reader) (u : Val) (r : RefT (List ℕ)) → Valued d r → Exits 𝓤 H 𝓜 𝓖 𝓡 value.ended (value.clauses 𝓤 H) (case κs qs d) u r
+  exits : (κs : Lfts 1) (qs : Shares 1) (d : Reader) (u : Val) (r : RefT Bytes) → Valued d r → Exits 𝓤 H 𝓜 𝓖 𝓡 value.ended (value.clauses 𝓤 H) (case κs qs d) u r
   exits κs qs d u r e = ends 𝓤 H 𝓜 𝓖 𝓡 value.ended (value.clauses 𝓤 H) (case κs qs d) u r (tt, tt) (shown ! e)
 
   walk : Walk 𝓤 H 𝓜 𝓖 𝓡 value.ended (value.clauses 𝓤 H) code.env code.function params

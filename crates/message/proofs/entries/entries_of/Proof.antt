@@ -1,10 +1,6 @@
 -- `message::entries::entries_of` meets its contract. Assumes nothing.
-use Prim.Native.Nat.{_-_, _*_, _/_, _<_, _≤_, min}
-use mathlib.Core.Path.{_≡_}
+use Prim.Native.Nat.{_-_}
 use native.Mathlib.Omega.{arith}
-use lib.ListN.{length}
-use denote.Ref.{now}
-use Rattle.message.specs.Layout.{countSize, entrySize, count}
 use Rattle.message.specs.Values.{entries}
 use borrow.Author.Needs.{needs}
 use Rattle.message.proofs.entries.entries_of.Statement.{statement}

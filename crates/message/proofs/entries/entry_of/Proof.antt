@@ -3,12 +3,12 @@ use borrow.Author.Needs.{needs}
 use Prim.Native.Nat.{ℕ, _-_, _*_, _<_, _≤_}
 use mathlib.Core.Bool.{Bool}
 use mathlib.Core.Path.{_≡_, refl, sym, _∙_}
-use mathlib.Core.List.{List}
 use native.Mathlib.Omega.{arith}
 use borrow.Author.Tests.{eq-eqb, ne-eqb}
 use lib.Dec.{eqb}
 use lib.ListN.{length}
 use denote.Ref.{now}
+use Rattle.octets.specs.Bytes.{Bytes}
 use Rattle.octets.specs.Search.{firstFrom}
 use Rattle.octets.proofs.SearchLaws.{first-more, first-stop, first-end}
 use Rattle.message.specs.Layout.{countSize, entrySize, codeAt}
@@ -16,7 +16,7 @@ use Rattle.message.specs.Values.{entries, entryFrom}
 use Rattle.message.proofs.entries.entry_of.Statement.{statement}
 use Rattle.message.proofs.entries.entry_of.Tie as tie
 
-abbrev Is : List ℕ → ℕ → ℕ → Bool
+abbrev Is : Bytes → ℕ → ℕ → Bool
 Is m code k = eqb (codeAt m k) code
 
 abbrev Inv-loop : tie.InvT-loop

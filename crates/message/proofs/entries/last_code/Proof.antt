@@ -1,9 +1,9 @@
 -- `message::entries::last_code` meets its contract. Assumes nothing.
 use Prim.Native.Nat.{ℕ, _-_, _≤_}
 use mathlib.Core.Path.{_≡_, sym, _∙_}
-use mathlib.Core.List.{List}
 use native.Mathlib.Omega.{arith}
 use denote.Ref.{now}
+use Rattle.octets.specs.Bytes.{Bytes}
 use Rattle.message.specs.Layout.{count, codeAt}
 use Rattle.message.proofs.ReadingLaws.{laid-entries, none-above}
 use borrow.Author.Needs.{needs}
@@ -24,7 +24,7 @@ returns-2 c =
     let n : c .before .before .entries-of .result ≡ count m = c .before .before .entries-of .ensures .0 ∙ laid-entries m (s .pre) in
     none-above m (s .pre) (c .u16-inside .result) (λ k e. go m k _ (c .before .before .entries-of .result) (omega (arith, n, e)) (c .u16-inside .ensures .0))
   where
-    go : (m : List ℕ) (k r n : ℕ) → k ≡ n - 1 → r ≡ codeAt m (n - 1) → codeAt m k ≤ r
+    go : (m : Bytes) (k r n : ℕ) → k ≡ n - 1 → r ≡ codeAt m (n - 1) → codeAt m k ≤ r
     go m k r n e f = rw (f, e) (omega arith)
 
 pub last-code-spec : {M : Type 1} → statement M

@@ -1,14 +1,13 @@
 -- `message::entries::value_here` meets its contract: in a right layout a value ends behind its offset, and within the message. Assumes nothing.
 use Prim.Native.Nat.{_-_, _<_, _≤_}
-use mathlib.Core.Path.{_≡_, sym, ap, ap₂, _∙_}
+use mathlib.Core.Path.{_≡_, ap₂}
 use native.Mathlib.Omega.{arith}
 use borrow.Author.Tests.{lt-ltb}
 use lib.ListN.{length}
 use denote.Ref.{now}
 use Rattle.octets.specs.Part.{part}
-use Rattle.message.specs.Layout.{count, offsetAt}
-use Rattle.message.specs.Values.{entries, endOf, valueAt}
-use Rattle.message.proofs.ReadingLaws.{laid-entries, laid-runs}
+use Rattle.message.specs.Values.{entries, valueAt}
+use Rattle.message.proofs.ReadingLaws.{laid-runs}
 use borrow.Author.Needs.{needs}
 use Rattle.message.proofs.entries.value_here.Statement.{statement}
 use Rattle.message.proofs.entries.value_here.Tie as tie

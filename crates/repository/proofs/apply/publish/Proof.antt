@@ -7,7 +7,7 @@ use Rattle.repository.proofs.apply.publish.Tie as tie
 returns : tie.Need-returns
 returns c =
     let w = c .before .before in
-    rw (sym (w .before .before .before .writes-line .ensures) ∙ w .before .before .if1 .taken) (w .write-line .ensures)
+    rw (sym (w .before .before .before .writes-line .ensures) ∙ w .before .before .if1 .taken) (w .write-line .ensures .0)
 
 pub publish-spec : {M : Type 1} → statement M
 publish-spec =

@@ -1,13 +1,12 @@
 -- `repository::decide::has_wrong_row` meets its contract. Assumes nothing.
 use Prim.Native.Nat.{ℕ, _-_, _≤_}
 use mathlib.Core.Bool.{Bool, true, false, not}
-use mathlib.Core.Path.{_≡_, refl, sym, ap, _∙_}
+use mathlib.Core.Path.{_≡_, refl, sym, ap}
 use native.Mathlib.Omega.{arith}
 use lib.Dec.{leb}
 use Rattle.ledger.specs.declared.search.Swap.{Swap}
 use borrow.Author.Tests.{not-true, not-false, leb-true, leb-false, le-leb, lt-leb}
 use Rattle.submission.specs.Submission.{rowRight, hasWrongRow}
-use borrow.Author.Needs.{needs}
 use Rattle.repository.proofs.decide.has_wrong_row.Statement.{statement}
 use Rattle.repository.proofs.decide.has_wrong_row.Tie as tie
 

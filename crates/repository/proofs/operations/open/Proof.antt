@@ -1,10 +1,10 @@
 -- `repository::operations::open` meets its contract. Assumes nothing.
 use Prim.Native.Nat.{ℕ, suc}
-use mathlib.Core.List.{List}
 use mathlib.Core.Path.{_≡_, sym, ap, _∙_}
 use native.Mathlib.Omega.{arith}
 use borrow.Author.Tests.{not-true, not-false}
 use denote.Ref.{now}
+use Rattle.octets.specs.Bytes.{Bytes}
 use Rattle.octets.specs.Part.{splice}
 use Rattle.ledger.specs.declared.header.Caps.{Caps}
 use Rattle.ledger.specs.Layout.{rowsAt}
@@ -19,7 +19,7 @@ use Rattle.repository.proofs.operations.open.Statement.{statement}
 use Rattle.repository.proofs.operations.open.Tie as tie
 
 -- a refused opening writes nothing
-kept : (limits : Limits) (caps : Caps) (l : List ℕ) (n : ℕ) → opened limits caps l .verdict ≡ suc n → l ≡ opened limits caps l .ledger
+kept : (limits : Limits) (caps : Caps) (l : Bytes) (n : ℕ) → opened limits caps l .verdict ≡ suc n → l ≡ opened limits caps l .ledger
 kept limits caps l n e = sym (opening-answers limits caps l (λ z. omega (arith, z, e)) .1)
 
 returns : tie.Need-returns

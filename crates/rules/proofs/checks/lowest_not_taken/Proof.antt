@@ -1,12 +1,12 @@
 -- `rules::checks::lowest_not_taken` meets its contract. Assumes nothing.
 use Prim.Native.Nat.{ℕ, _≤_}
 use mathlib.Core.Bool.{Bool, true, false, not}
-use mathlib.Core.List.{List}
 use mathlib.Core.Path.{_≡_, refl, sym, ap}
 use native.Mathlib.Omega.{arith}
 use borrow.Author.Tests.{leb-true, leb-false}
 use lib.Dec.{leb}
 use denote.Ref.{now}
+use Rattle.octets.specs.Bytes.{Bytes}
 use Rattle.octets.proofs.ChoiceLaws.{both-none}
 use Rattle.message.specs.Values.{isThere}
 use Rattle.message.specs.Reading.{NoneAbove}
@@ -21,7 +21,7 @@ use Rattle.rules.proofs.checks.lowest_not_taken.Statement.{statement}
 use Rattle.rules.proofs.checks.lowest_not_taken.Tie as tie
 
 -- a code is taken, or above the last one that is there
-none : (a : Action) (m : List ℕ) (last n : ℕ) → NoneAbove m last → TakenUpTo a n → last ≤ n → lowest (atFault Taken a m) ≡ passed
+none : (a : Action) (m : Bytes) (last n : ℕ) → NoneAbove m last → TakenUpTo a n → last ≤ n → lowest (atFault Taken a m) ≡ passed
 none a m last n above taken h = none-at-fault (atFault Taken a m) (λ code l u. by code l (leb code n) refl)
   where
     by : (code : ℕ) → 1 ≤ code → (t : Bool) → leb code n ≡ t → atFault Taken a m code ≡ false

@@ -1,13 +1,12 @@
 -- `values::lei::read_on` meets its contract. The invariant: r is the number read on by the first k characters, and has k bytes more at most. Assumes nothing.
 use Prim.Native.Nat.{ℕ, _+_, _-_, _*_, _^_, _<_, _≤_}
-use mathlib.Core.List.{List}
-use mathlib.Core.Path.{_≡_, refl, sym, ap, ap₂, _∙_}
+use mathlib.Core.Path.{_≡_, refl, ap, ap₂, _∙_}
 use native.Mathlib.Nat.{pow-le-pow-right}
 use native.Mathlib.Omega.{arith}
 use lib.ListN.{length, getD, take}
 use lib.Seq.{take-all}
 use denote.Ref.{now}
-use Rattle.values.specs.Lei.{weight, number, grow, spell}
+use Rattle.values.specs.Lei.{grow, spell}
 use Rattle.values.proofs.LeiLaws.{spell-next, grow-byte}
 use borrow.Author.Needs.{needs}
 use Rattle.values.proofs.lei.read_on.Statement.{statement}

@@ -1,11 +1,12 @@
 -- `values::lei::spelled` meets its contract. The invariant: r is the remainder of the number that the first k characters spell. Assumes nothing.
 use Prim.Native.Nat.{ℕ, _+_, _-_, _%_, _<_, _≤_}
-use mathlib.Core.List.{List, _++_}
+use mathlib.Core.List.{_++_}
 use mathlib.Core.Path.{_≡_, sym, ap, _∙_}
 use native.Mathlib.Omega.{arith}
 use lib.ListN.{length, take, drop, length-take, length-drop}
 use lib.Seq.{take-all}
 use denote.Ref.{now}
+use Rattle.octets.specs.Bytes.{Bytes}
 use Rattle.values.specs.Limits.{leiModulus}
 use Rattle.values.specs.Lei.{spell}
 use Rattle.values.proofs.LeiLaws.{take-more, spell-mod, spell-append}
@@ -46,7 +47,7 @@ loop-again c =
 returns : tie.Need-returns Inv-loop μ-loop
 returns c =
     let v = now (c .before .before .before .args .v) in
-    c .before .loop .inv .2 ∙ ap (λ (s : List ℕ). spell 0 s % leiModulus) (take-all (c .before .loop .k) v (omega arith))
+    c .before .loop .inv .2 ∙ ap (λ (s : Bytes). spell 0 s % leiModulus) (take-all (c .before .loop .k) v (omega arith))
 
 pub spelled-spec : {M : Type 1} → statement M
 spelled-spec =

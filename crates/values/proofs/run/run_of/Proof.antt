@@ -2,13 +2,13 @@
 use borrow.Author.Needs.{needs}
 use Prim.Native.Nat.{ℕ, _-_, _<_, _≤_}
 use mathlib.Core.Bool.{Bool}
-use mathlib.Core.List.{List}
 use mathlib.Core.Path.{_≡_, sym, _∙_}
 use native.Mathlib.Nat.{sub-zero}
 use native.Mathlib.Omega.{arith}
 use borrow.Author.Tests.{lt-leb, le-leb, not-true, not-false}
 use lib.ListN.{length, getD}
 use denote.Ref.{now}
+use Rattle.octets.specs.Bytes.{Bytes}
 use Rattle.octets.specs.Search.{allFrom}
 use Rattle.octets.proofs.SearchLaws.{all-more, all-stop, all-end}
 use Rattle.values.specs.declared.run.Class.{Class}
@@ -16,7 +16,7 @@ use Rattle.values.specs.Run.{inClass, runOf}
 use Rattle.values.proofs.run.run_of.Statement.{statement}
 use Rattle.values.proofs.run.run_of.Tie as tie
 
-abbrev In : Class → List ℕ → ℕ → Bool
+abbrev In : Class → Bytes → ℕ → Bool
 In class v k = inClass class (getD v k 0)
 
 abbrev Inv-loop : tie.InvT-loop

@@ -1,43 +1,43 @@
--- `actions::read_action` meets its contract. Where the first k codes are passed, the rest of the table decides. Assumes nothing.
+-- `actions::table::read_action` meets its contract. Where the first k codes are passed, the rest of the table decides. Assumes nothing.
 use borrow.Author.Needs.{needs}
 use Prim.Native.Nat.{ℕ}
 use mathlib.Core.Path.{_≡_, sym, _∙_}
-use mathlib.Core.List.{List}
 use lib.Dec.{lit<}
 use lib.ListN.{drop}
 use denote.Ref.{now}
+use Rattle.octets.specs.Bytes.{Bytes}
 use Rattle.octets.specs.Text.{text}
 use Rattle.octets.specs.Same.{beside}
 use Rattle.octets.proofs.SameLaws.{beside-is, beside-not}
 use Rattle.actions.specs.Actions.{actionCode, actionCodes, actionOf}
 use Rattle.actions.specs.declared.Checked.{Checked}
 use Rattle.actions.specs.declared.Checked.the-variants.{Fault}
-use Rattle.actions.proofs.read_action.Statement.{statement}
-use Rattle.actions.proofs.read_action.Tie as tie
+use Rattle.actions.proofs.table.read_action.Statement.{statement}
+use Rattle.actions.proofs.table.read_action.Tie as tie
 
-rest : ℕ → List ℕ → Checked
+rest : ℕ → Bytes → Checked
 rest k v = beside (drop k actionCodes) (Fault actionCode) v
 
 -- the value, at each place
-abbrev v1 : tie.Else1 → List ℕ
+abbrev v1 : tie.Else1 → Bytes
 v1 c = now (c .before .before .before .before .args .v)
 
-abbrev v2 : tie.Else2 → List ℕ
+abbrev v2 : tie.Else2 → Bytes
 v2 c = v1 (c .before .before .before)
 
-abbrev v3 : tie.Else3 → List ℕ
+abbrev v3 : tie.Else3 → Bytes
 v3 c = v2 (c .before .before .before)
 
-abbrev v4 : tie.Else4 → List ℕ
+abbrev v4 : tie.Else4 → Bytes
 v4 c = v3 (c .before .before .before)
 
-abbrev v5 : tie.Else5 → List ℕ
+abbrev v5 : tie.Else5 → Bytes
 v5 c = v4 (c .before .before .before)
 
-abbrev v6 : tie.Else6 → List ℕ
+abbrev v6 : tie.Else6 → Bytes
 v6 c = v5 (c .before .before .before)
 
-abbrev v7 : tie.Else7 → List ℕ
+abbrev v7 : tie.Else7 → Bytes
 v7 c = v6 (c .before .before .before)
 
 passed1 : (c : tie.Else1) → actionOf (v1 c) ≡ rest 1 (v1 c)
@@ -68,54 +68,23 @@ passed7 : (c : tie.Else7) → actionOf (v7 c) ≡ rest 7 (v7 c)
 unfolding actionOf rest text
 passed7 c = passed6 (c .before .before .before) ∙ beside-not actionCodes (Fault actionCode) 6 (lit< tt) _ _ (c .before .is-code7 .ensures) (c .if7 .left)
 
-returns : tie.Need-returns
-unfolding actionOf rest text beside
-returns c = beside-is actionCodes (Fault actionCode) 0 (lit< tt) _ _ (c .before .is-code .ensures) (c .if1 .taken)
-
-returns-2 : tie.Need-returns-2
-unfolding actionOf rest text beside
-returns-2 c = beside-is actionCodes (Fault actionCode) 1 (lit< tt) _ _ (c .before .is-code2 .ensures) (c .if2 .taken) ∙ sym (passed1 (c .before .before .before))
-
-returns-3 : tie.Need-returns-3
-unfolding actionOf rest text beside
-returns-3 c = beside-is actionCodes (Fault actionCode) 2 (lit< tt) _ _ (c .before .is-code3 .ensures) (c .if3 .taken) ∙ sym (passed2 (c .before .before .before))
-
-returns-4 : tie.Need-returns-4
-unfolding actionOf rest text beside
-returns-4 c = beside-is actionCodes (Fault actionCode) 3 (lit< tt) _ _ (c .before .is-code4 .ensures) (c .if4 .taken) ∙ sym (passed3 (c .before .before .before))
-
-returns-5 : tie.Need-returns-5
-unfolding actionOf rest text beside
-returns-5 c = beside-is actionCodes (Fault actionCode) 4 (lit< tt) _ _ (c .before .is-code5 .ensures) (c .if5 .taken) ∙ sym (passed4 (c .before .before .before))
-
-returns-6 : tie.Need-returns-6
-unfolding actionOf rest text beside
-returns-6 c = beside-is actionCodes (Fault actionCode) 5 (lit< tt) _ _ (c .before .is-code6 .ensures) (c .if6 .taken) ∙ sym (passed5 (c .before .before .before))
-
-returns-7 : tie.Need-returns-7
-unfolding actionOf rest text beside
-returns-7 c = beside-is actionCodes (Fault actionCode) 6 (lit< tt) _ _ (c .before .is-code7 .ensures) (c .if7 .taken) ∙ sym (passed6 (c .before .before .before))
-
-returns-8 : tie.Need-returns-8
-unfolding actionOf rest text beside
-returns-8 c = sym (passed7 c)
-
 pub read-action-spec : {M : Type 1} → statement M
+unfolding actionOf rest text beside
 read-action-spec =
     tie.close
     (tie.spec
     (λ c κs. search needs)
-    returns
+    (λ c. beside-is actionCodes (Fault actionCode) 0 (lit< tt) _ _ (c .before .is-code .ensures) (c .if1 .taken))
     (λ c κs. search needs)
-    returns-2
+    (λ c. beside-is actionCodes (Fault actionCode) 1 (lit< tt) _ _ (c .before .is-code2 .ensures) (c .if2 .taken) ∙ sym (passed1 (c .before .before .before)))
     (λ c κs. search needs)
-    returns-3
+    (λ c. beside-is actionCodes (Fault actionCode) 2 (lit< tt) _ _ (c .before .is-code3 .ensures) (c .if3 .taken) ∙ sym (passed2 (c .before .before .before)))
     (λ c κs. search needs)
-    returns-4
+    (λ c. beside-is actionCodes (Fault actionCode) 3 (lit< tt) _ _ (c .before .is-code4 .ensures) (c .if4 .taken) ∙ sym (passed3 (c .before .before .before)))
     (λ c κs. search needs)
-    returns-5
+    (λ c. beside-is actionCodes (Fault actionCode) 4 (lit< tt) _ _ (c .before .is-code5 .ensures) (c .if5 .taken) ∙ sym (passed4 (c .before .before .before)))
     (λ c κs. search needs)
-    returns-6
+    (λ c. beside-is actionCodes (Fault actionCode) 5 (lit< tt) _ _ (c .before .is-code6 .ensures) (c .if6 .taken) ∙ sym (passed5 (c .before .before .before)))
     (λ c κs. search needs)
-    returns-7
-    returns-8)
+    (λ c. beside-is actionCodes (Fault actionCode) 6 (lit< tt) _ _ (c .before .is-code7 .ensures) (c .if7 .taken) ∙ sym (passed6 (c .before .before .before)))
+    (λ c. sym (passed7 c)))

@@ -1,0 +1,51 @@
+-- Document 01's numbers, computed: offset and length of every field, in the paper's order, and the sizes.
+use Prim.Native.Nat.{ℕ}
+use mathlib.Core.Path.{_≡_}
+use mathlib.Core.List.{List, [], _∷_}
+use Rattle.octets.specs.Bytes.{Bytes}
+use Rattle.octets.specs.Fields.{places}
+use Rattle.actions.specs.declared.Action.{Action}
+use Rattle.terms.specs.Terms.{termFields, termsSize}
+use Rattle.ledger.specs.declared.header.Caps.{Caps}
+use Rattle.ledger.specs.Line.{lineFields}
+use Rattle.ledger.specs.Layout.{u8, u32, u64, rowsAt, firstRowAt, nextAt, capAt, rowSizeAt, capacityAt, headerSize, statusAt, lengthAt, utiAt, utiSize, identifierAt, termsAt, tailAt, tailSize, rowSize, shortestLedger, lineSize}
+use Rattle.ledger.specs.Header.{headerFields}
+use Rattle.ledger.specs.Rows.{rowFields}
+
+-- ---- offset, length
+
+-- the tape line: identifier, previous one, action, event, event time, masked terms, newline
+abbrev pub linePlaces : List (ℕ × ℕ)
+linePlaces = (0, 12) ∷ (12, 12) ∷ (24, 4) ∷ (28, 4) ∷ (32, 20) ∷ (52, 93) ∷ (145, 1) ∷ []
+
+-- the masked terms: execution time, effective, expiration, Cleared, non-standardized, block, large, package, price, notation, price currency, asset class,
+-- notional, plus sign, notional currency, location
+abbrev pub termPlaces : List (ℕ × ℕ)
+termPlaces =
+    (52, 20) ∷ (72, 10) ∷ (82, 10) ∷ (92, 1) ∷ (93, 1) ∷ (94, 1) ∷ (95, 1) ∷ (96, 1)
+    ∷ (97, 20) ∷ (117, 1) ∷ (118, 3) ∷ (121, 2) ∷ (123, 16) ∷ (139, 1) ∷ (140, 3) ∷ (143, 2) ∷ []
+
+-- the header: rows in use, offset of the first row, next identifier, five caps, row size, capacity
+abbrev pub headerPlaces : List (ℕ × ℕ)
+headerPlaces = (0, 4) ∷ (4, 4) ∷ (8, 8) ∷ (16, 8) ∷ (24, 8) ∷ (32, 8) ∷ (40, 8) ∷ (48, 8) ∷ (56, 4) ∷ (60, 4) ∷ []
+
+-- a row: status, UTI length, UTI, identifier, masked terms, zero
+abbrev pub rowPlaces : List (ℕ × ℕ)
+rowPlaces = (0, 1) ∷ (1, 1) ∷ (2, 52) ∷ (54, 8) ∷ (62, 93) ∷ (155, 5) ∷ []
+
+-- ---- the definitions come to these numbers
+
+pub record Document-sizes : Type 0 where
+  -- the fields that are written
+  pub line : (a : Action) (identifier previous : ℕ) (m terms : Bytes) → places 0 (lineFields a identifier previous m terms) ≡ linePlaces
+  pub terms : (cap : ℕ) (m : Bytes) → places 52 (termFields cap m) ≡ termPlaces
+  pub header : (caps : Caps) (capacity : ℕ) → places 0 (headerFields caps capacity) ≡ headerPlaces
+  pub row : (status : ℕ) (u : Bytes) (identifier : ℕ) (terms : Bytes) → places 0 (rowFields status u identifier terms) ≡ rowPlaces
+  -- the fields that are read, by their names
+  pub headerNames : (rowsAt, u32) ∷ (firstRowAt, u32) ∷ (nextAt, u64) ∷ (capAt 0, u64) ∷ (capAt 1, u64) ∷ (capAt 2, u64) ∷ (capAt 3, u64) ∷ (capAt 4, u64) ∷ (rowSizeAt, u32) ∷ (capacityAt, u32) ∷ [] ≡ headerPlaces
+  pub rowNames : (statusAt, u8) ∷ (lengthAt, u8) ∷ (utiAt, utiSize) ∷ (identifierAt, u64) ∷ (termsAt, termsSize) ∷ (tailAt, tailSize) ∷ [] ≡ rowPlaces
+  -- the sizes
+  pub lineSized : lineSize ≡ 146
+  pub headerSized : headerSize ≡ 64
+  pub rowSized : rowSize ≡ 160
+  pub shortest : shortestLedger ≡ 224
