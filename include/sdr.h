@@ -82,7 +82,7 @@ extern "C" {
  * A date is YYYY-MM-DD, from the year 1900 on. A time is a date, T, hh:mm:ss and Z. A truth is True, False, true or false.
  */
 
-#define SDR_ELEMENT_COUNT 25 /* the codes are 1 to 25 */
+#define SDR_ELEMENT_COUNT 25 /* the codes are 1 up to this */
 
 enum sdr_element_code {
     SDR_UTI = 1,                      /* all; 21 to 52 capitals or digits; names the swap */
@@ -114,8 +114,13 @@ enum sdr_element_code {
 
 /* ---- Verdicts ----
  *
- * Each operation judges its rules in the order of these numbers and answers the first one that is broken. The element is 0
- * unless a comment here says otherwise.
+ * An operation judges its rules one after the other and answers the first one that is broken. The order:
+ *
+ *   sdr_open     1, 2
+ *   sdr_submit   3, 4, 5, 6, 7, 8, 9, 10, 11, 12, 13, 14, 15, 16, 17, 18
+ *   sdr_status   3, 9, 14
+ *
+ * The element is 0 unless a comment below says otherwise.
  */
 
 enum sdr_verdict_code {
@@ -166,7 +171,10 @@ enum sdr_status_code {
     SDR_PORTED = 4   /* admits nothing */
 };
 
-/* ---- Operations ---- */
+/* ---- Operations ----
+ *
+ * The order in which an operation judges its rules stands with the verdicts.
+ */
 
 /*
  * Opens a ledger over a buffer.
@@ -175,18 +183,15 @@ enum sdr_status_code {
  * the cap and a plus sign. A cap lies between SDR_SMALLEST_CAP and SDR_LARGEST_CAP and is an amount that rounding leaves as
  * it is: 250,000,000 is one, 251,000,000 is not.
  *
- * Answers SDR_ACCEPTED, SDR_LEDGER_SHORT or SDR_CAP_WRONG; the length is judged before the caps, and what the buffer holds
- * is not looked at. If it accepts, it writes the first SDR_HEADER_SIZE bytes of the buffer and no others: the ledger then
- * has no swaps, and 1 as its next identifier. So opening a ledger that is in use forgets its swaps.
+ * Answers a verdict; what the buffer holds is not looked at. If it accepts, it writes the first SDR_HEADER_SIZE bytes of the
+ * buffer and no others: the ledger then has no swaps, and 1 as its next identifier. So opening a ledger that is in use
+ * forgets its swaps.
  */
 uint32_t sdr_open(uint8_t *ledger, size_t ledger_len, uint64_t cap_cr, uint64_t cap_ir, uint64_t cap_fx, uint64_t cap_eq,
                   uint64_t cap_co);
 
 /*
  * Judges one message and, if it accepts, does what the message says.
- *
- * Judged in this order: the ledger's header (3), the tape buffer's length (4), the message alone (5 to 13), the message
- * against the swap's row (14 to 16), room in the ledger (17) and identifiers (18).
  *
  * The answer, to be read by the accessors below:
  *
@@ -205,9 +210,6 @@ uint64_t sdr_submit(uint8_t *ledger, size_t ledger_len, uint8_t *tape, size_t ta
 
 /*
  * Tells the status of the swap with this UTI. Writes nothing.
- *
- * Judged in this order: the ledger's header (SDR_LEDGER_WRONG), the form of the UTI (SDR_FORM_BROKEN, element 1), the swap's
- * row (SDR_ROW_WRONG).
  *
  * The answer, to be read by the accessors below:
  *

@@ -265,7 +265,7 @@ static void odd_openings(void)
 {
     print_call("open, a cap of 251000000",
               sdr_open(ledger, sizeof ledger, 251000000, 500000000, 1000000000, 100000000, 50000000));
-    print_call("open, 223 bytes",
+    print_call("open, one byte too few",
               sdr_open(ledger, SDR_SHORTEST_LEDGER - 1, 250000000, 500000000, 1000000000, 100000000, 50000000));
     print_call("open, nothing", sdr_open(NULL, 0, 250000000, 500000000, 1000000000, 100000000, 50000000));
 }
@@ -276,7 +276,7 @@ static void odd_submissions(void)
     uint8_t message[SDR_LONGEST_MESSAGE];
     size_t length = encode(&report, message);
 
-    print_call("submit, tape buffer of 145 bytes",
+    print_call("submit, tape buffer one byte too short",
               sdr_submit(ledger, sizeof ledger, tape, SDR_LINE_SIZE - 1, message, length));
     print_call("submit, no tape buffer", sdr_submit(ledger, sizeof ledger, NULL, 0, message, length));
     print_call("submit, no message", sdr_submit(ledger, sizeof ledger, tape, sizeof tape, NULL, 0));
