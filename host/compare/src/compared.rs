@@ -265,6 +265,12 @@ fn difference(first: &[u8], second: &[u8]) -> Option<(usize, u8, u8)> {
 #[cfg(test)]
 mod tests {
     use super::{Answer, Compared, Judge};
+    use crate::layout::{length_for, LINE_SIZE};
+
+    /// A byte of the second row.
+    const IN_ROW_1: usize = length_for(1) + 75;
+    /// The longest tape buffer here: a line and some bytes behind it.
+    const TAPE: usize = LINE_SIZE + 4;
 
     /// A judge that does to ledger and tape buffer what it is told.
     struct Told(fn(&mut [u8], &mut [u8]) -> Answer);
@@ -275,7 +281,7 @@ mod tests {
         }
 
         fn open(&self, ledger: &mut [u8], _: &[u64; 5]) -> Answer {
-            self.0(ledger, &mut [0; 200])
+            self.0(ledger, &mut [0; TAPE])
         }
 
         fn submit(&self, ledger: &mut [u8], tape: &mut [u8], _: &[u8]) -> Answer {
@@ -283,7 +289,7 @@ mod tests {
         }
 
         fn status(&self, ledger: &[u8], _: &[u8]) -> Answer {
-            self.0(&mut ledger.to_vec(), &mut [0; 200])
+            self.0(&mut ledger.to_vec(), &mut [0; TAPE])
         }
     }
 
@@ -298,33 +304,41 @@ mod tests {
 
     static SILENT: Told = Told(|_, _| Answer::default());
 
-    static OTHERS: [(Told, &str); 7] = [
-        (Told(|_, _| answer(15, 0, 0, 0)), "the answers differ"),
-        (Told(|_, _| answer(0, 3, 0, 0)), "the answers differ"),
-        (Told(|_, _| answer(0, 0, 1, 0)), "the answers differ"),
-        (Told(|_, _| answer(0, 0, 0, 1)), "the answers differ"),
+    /// Other judges, and how their difference from the silent one is told.
+    static OTHERS: [(Told, fn() -> String); 7] = [
+        (Told(|_, _| answer(15, 0, 0, 0)), answers_differ),
+        (Told(|_, _| answer(0, 3, 0, 0)), answers_differ),
+        (Told(|_, _| answer(0, 0, 1, 0)), answers_differ),
+        (Told(|_, _| answer(0, 0, 0, 1)), answers_differ),
         (
             Told(|ledger, _| {
-                ledger[299] = 1;
+                ledger[IN_ROW_1] = 1;
                 Answer::default()
             }),
-            "the ledgers differ: byte 299 (row 1 byte 75) is 0 and 1",
+            || format!("the ledgers differ: byte {IN_ROW_1} (row 1 byte 75) is 0 and 1"),
         ),
         (
             Told(|_, tape| {
-                tape[145] = 1;
+                tape[LINE_SIZE - 1] = 1;
                 Answer::default()
             }),
-            "the tape buffers differ: byte 145 is 0 and 1",
+            || {
+                let last = LINE_SIZE - 1;
+                format!("the tape buffers differ: byte {last} is 0 and 1")
+            },
         ),
         (
             Told(|_, tape| {
-                tape[146] = 1;
+                tape[LINE_SIZE] = 1;
                 Answer::default()
             }),
-            "told: bytes behind the line changed",
+            || "told: bytes behind the line changed".to_string(),
         ),
     ];
+
+    fn answers_differ() -> String {
+        "the answers differ".to_string()
+    }
 
     static BOTH_WRONG: [(Told, &str); 5] = [
         (
@@ -357,8 +371,8 @@ mod tests {
 
     fn fault_between(first: &'static Told, second: &'static Told) -> String {
         let mut compared = Compared::between(&[first, second]);
-        compared.set_ledger(&[0; 300]);
-        compared.set_tape(&[0; 150]);
+        compared.set_ledger(&[0; length_for(2)]);
+        compared.set_tape(&[0; TAPE]);
         let result = compared.try_submit(b"message");
         result.expect_err("the judges are wrong").to_string()
     }
@@ -367,7 +381,7 @@ mod tests {
     fn each_difference_is_told() {
         for (other, text) in &OTHERS {
             let fault = fault_between(&SILENT, other);
-            assert!(fault.starts_with(text), "{fault}");
+            assert!(fault.starts_with(&text()), "{fault}");
         }
     }
 

@@ -1,6 +1,6 @@
 //! Life cycles of swaps, and a model that says what each step has to do.
 
-use crate::layout::{Header, Row, HIGHEST_NEXT, LINE_SIZE};
+use crate::layout::{Header, Row, EXECUTION_IN_TERMS, HIGHEST_NEXT, LINE_SIZE, TERMS_SIZE};
 use crate::matrix::{self, is_full, ACTIONS, EVENTS};
 use crate::message::Message;
 use crate::random::Random;
@@ -71,7 +71,9 @@ impl Model {
             10
         } else if matrix::step(action, self.status(uti)).is_none() {
             15
-        } else if repeats && row.is_some_and(|row| row.terms[..20] != *message.value(6)) {
+        } else if repeats
+            && row.is_some_and(|row| row.terms[EXECUTION_IN_TERMS] != *message.value(6))
+        {
             16
         } else if action == "NEWT" && self.header.rows == self.header.capacity {
             17
@@ -113,7 +115,7 @@ impl Model {
     }
 
     fn add_row(&mut self, uti: &[u8]) -> usize {
-        self.rows.push(Row::new(uti, 0, [b' '; 93]));
+        self.rows.push(Row::new(uti, 0, [b' '; TERMS_SIZE]));
         self.header.rows += 1;
         self.rows.len() - 1
     }
@@ -157,7 +159,7 @@ fn next_action(random: &mut Random, status: u8) -> &'static str {
 fn repeat_execution(random: &mut Random, message: &mut Message, action: &str, row: &Row) {
     let repeats = matches!(action, "MODI" | "REVI") && !random.once_in(12);
     if repeats || (action == "CORR" && random.once_in(2)) {
-        sound::set_execution(random, message, &row.terms[..20]);
+        sound::set_execution(random, message, &row.terms[EXECUTION_IN_TERMS]);
     }
 }
 

@@ -4,7 +4,8 @@ use crate::cycles::{next_message, Model};
 use crate::faults::{self, Case, Fault};
 use crate::garbage;
 use crate::layout;
-use crate::message::{described, Message};
+use crate::message::{described, Message, LONGEST_MESSAGE};
+use crate::order;
 use crate::random::Random;
 use crate::sound;
 use crate::values;
@@ -13,8 +14,6 @@ use crate::values;
 pub const ROWS: usize = 400;
 /// The caps that the day run opens with.
 const CAPS: [u64; 5] = [250_000_000; 5];
-/// The longest message that is not passed over.
-pub const LONGEST: usize = 2_048;
 /// The bytes of a length.
 pub const LENGTH_SIZE: usize = 2;
 
@@ -51,7 +50,7 @@ pub fn subject_of(day: &[u8], line: usize) -> String {
     match line.checked_sub(1).map(|at| messages.get(at)) {
         None => String::from("the heading"),
         Some(None) => format!("the line after {} messages", messages.len()),
-        Some(Some(message)) if message.len() > LONGEST => {
+        Some(Some(message)) if message.len() > LONGEST_MESSAGE => {
             format!("message {line}, {} bytes to be passed over", message.len())
         }
         Some(Some(message)) => format!("message {line}: {}", described(message)),
@@ -97,7 +96,7 @@ impl Feed {
     /// A feed about so many swaps.
     pub fn about(random: &mut Random, swaps: usize) -> Feed {
         let mut faults = faults::all();
-        faults.retain(|fault| (5..=13).contains(&fault.verdict()));
+        faults.retain(|fault| order::from_to(5, 13).contains(&fault.verdict()));
         Feed {
             model: Model::opened(layout::length_for(ROWS), CAPS),
             utis: values::utis(random, swaps),
@@ -112,7 +111,7 @@ impl Feed {
             6 => self.flipped(random),
             7 => self.extended(random),
             8 => garbage::wild_message(random),
-            9 => garbage::noise(random, LONGEST),
+            9 => garbage::noise(random, LONGEST_MESSAGE),
             10 => {
                 let length = random.below(3);
                 random.bytes(length)
@@ -151,7 +150,10 @@ impl Feed {
     /// shorter or longer.
     fn extended(&mut self, random: &mut Random) -> Vec<u8> {
         let mut bytes = next_message(random, &self.model, &self.utis).encode();
-        bytes.resize(random.between(LONGEST - 1, LONGEST + 1), b'A');
+        bytes.resize(
+            random.between(LONGEST_MESSAGE - 1, LONGEST_MESSAGE + 1),
+            b'A',
+        );
         bytes
     }
 }
@@ -160,9 +162,9 @@ impl Feed {
 fn overlong_length(random: &mut Random) -> usize {
     match random.below(12) {
         0 => 65_535,
-        1 => random.between(LONGEST + 1, 65_535),
-        2 => LONGEST + 1,
-        _ => random.between(LONGEST + 1, 6_000),
+        1 => random.between(LONGEST_MESSAGE + 1, 65_535),
+        2 => LONGEST_MESSAGE + 1,
+        _ => random.between(LONGEST_MESSAGE + 1, 6_000),
     }
 }
 
@@ -214,7 +216,7 @@ mod tests {
     #[test]
     fn days_are_laid_out_as_the_paper_says() {
         assert_eq!(of(&[vec![], vec![7, 8, 9]]), [0, 0, 3, 0, 7, 8, 9]);
-        assert_eq!(framed(&[1; 2_049])[..3], [1, 8, 1]);
+        assert_eq!(framed(&[1; 0x0801])[..3], [1, 8, 1]);
         let day = [0, 0, 3, 0, 7, 8, 9, 1];
         assert_eq!(messages(&day), [&[][..], &[7, 8, 9]]);
         assert_eq!(messages(&day[..6]), [&[][..]]);

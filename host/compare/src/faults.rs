@@ -1,13 +1,16 @@
 //! Cases in which chosen rules are broken and no others.
 //!
 //! A case starts sound: it is accepted. Each fault breaks exactly one rule.
-//! Faults of several rules are put in from the highest number down, so that
-//! the lowest is certainly broken; its number is the verdict that is due.
+//! Faults of several rules are put in from the last rule to the first in
+//! checking order, so that the first is certainly broken; its number is the
+//! verdict that is due.
 
-use crate::layout::{self, Header, Row, HIGHEST_NEXT, LINE_SIZE};
+use crate::layout::{self, Header, Row, EXECUTION_IN_TERMS, HEADER_SIZE, HIGHEST_NEXT, LINE_SIZE};
+use crate::layout::{ROW_SIZE, SHORTEST_LEDGER};
 use crate::malformed;
 use crate::matrix::{self, is_full};
-use crate::message::{Message, COUNT_SIZE, ENTRY_SIZE};
+use crate::message::{Message, COUNT_SIZE, ENTRY_SIZE, HIGHEST_CODE, LONGEST_MESSAGE};
+use crate::order;
 use crate::random::Random;
 use crate::sound;
 use crate::terms::terms_of;
@@ -21,7 +24,7 @@ pub const NEEDED_BY_FULL: [u8; 14] = [6, 7, 8, 9, 10, 12, 13, 14, 15, 20, 21, 23
 /// The conditional codes.
 pub const CONDITIONAL: [u8; 5] = [11, 16, 17, 18, 19];
 /// The highest code that TERM, EROR and PRTO take.
-const HIGHEST_SHORT: u8 = 5;
+pub const HIGHEST_SHORT: u8 = 5;
 
 /// A fault in the header or length of the ledger (3).
 #[derive(Clone, Copy, Debug, PartialEq, Eq)]
@@ -129,9 +132,15 @@ impl Fault {
         }
     }
 
-    /// Verdict and element: the lowest of several faults is what is due.
+    /// The verdict and the element that the fault alone gets.
     pub fn due(self) -> (u8, u8) {
         (self.verdict(), self.element())
+    }
+
+    /// How early the fault is found: by the order of the rules, then by the
+    /// element.
+    fn place(self) -> (usize, u8) {
+        (order::place(self.verdict()), self.element())
     }
 
     /// Whether a message of this action can have the fault.
@@ -165,8 +174,12 @@ pub fn all() -> Vec<Fault> {
     faults.extend(LAYOUTS.map(Fault::Layout));
     faults.extend(NEEDED_BY_ALL.map(Fault::Missing));
     faults.extend(NEEDED_BY_FULL.map(Fault::Missing));
-    faults.extend((HIGHEST_SHORT + 1..=25).map(Fault::Surplus));
-    faults.extend((1..=25).filter(|&code| code != 2).map(Fault::Form));
+    faults.extend((HIGHEST_SHORT + 1..=HIGHEST_CODE).map(Fault::Surplus));
+    faults.extend(
+        (1..=HIGHEST_CODE)
+            .filter(|&code| code != 2)
+            .map(Fault::Form),
+    );
     faults.extend(CONDITIONAL.map(Fault::Conditional));
     faults.extend([Order::Expiration, Order::Settlement, Order::Reporting].map(Fault::Order));
     faults.extend(BAD_ROWS.map(Fault::Row));
@@ -234,7 +247,7 @@ impl Case {
     pub fn sound(random: &mut Random, action: &str) -> Case {
         let count = random.between(1, 6);
         let spare = random.between(1, 3);
-        let ledger_length = layout::length_for(count + spare) + random.below(160);
+        let ledger_length = layout::length_for(count + spare) + random.below(ROW_SIZE);
         let mut header = Header::opened(ledger_length, values::caps(random));
         header.rows = count as u32;
         header.next = next_identifier(random);
@@ -248,7 +261,7 @@ impl Case {
             header,
             rows,
             ledger_length,
-            tape_length: random.between(LINE_SIZE, 200),
+            tape_length: values::tape_length(random),
             message: Message::default(),
             row,
             layout: None,
@@ -266,7 +279,7 @@ impl Case {
         }
         let row = &mut self.rows[self.row];
         row.status = *random.pick(&matrix::admitting(action));
-        let execution = row.terms[..20].to_vec();
+        let execution = row.terms[EXECUTION_IN_TERMS].to_vec();
         self.message = sound::message_executed(random, action, row.uti(), &execution);
         if action == "CORR" && random.once_in(2) {
             let mended = values::time(random);
@@ -303,7 +316,7 @@ impl Case {
     /// Puts faults in and says which verdict and element are due.
     pub fn break_rules(&mut self, random: &mut Random, faults: &[Fault]) -> (u8, u8) {
         let mut faults = faults.to_vec();
-        faults.sort_by_key(|fault| std::cmp::Reverse(fault.due()));
+        faults.sort_by_key(|fault| std::cmp::Reverse(fault.place()));
         for fault in &faults {
             self.break_rule(random, *fault);
         }
@@ -335,17 +348,15 @@ impl Case {
         let right = layout::capacity(self.ledger_length) as u32;
         let header = &mut self.header;
         match damage {
-            Damage::Short => self.ledger_length = random.below(224),
+            Damage::Short => self.ledger_length = random.below(SHORTEST_LEDGER),
             Damage::ManyRows => header.rows = header.capacity + 1 + random.below(3) as u32,
-            Damage::First => header.first = *random.pick(&[0, 63, 65, 224, 64 << 8, 64 | 1 << 31]),
+            Damage::First => header.first = wrong_size(random, HEADER_SIZE),
             Damage::NextZero => header.next = 0,
             Damage::NextHigh => {
                 header.next = *random.pick(&[HIGHEST_NEXT + 1, u64::MAX, 1 << 40, 1 << 63])
             }
             Damage::Cap(class) => header.caps[class] = *random.pick(&WRONG_CAPS),
-            Damage::RowSize => {
-                header.row_size = *random.pick(&[0, 159, 161, 160 << 8, 160 | 1 << 31])
-            }
+            Damage::RowSize => header.row_size = wrong_size(random, ROW_SIZE),
             Damage::CapacityLow => header.capacity = right.max(1) - 1,
             Damage::CapacityHigh => header.capacity = right + 1,
         }
@@ -462,7 +473,7 @@ impl Case {
 
     /// Another execution time than the row's, often in one character only.
     fn other_execution(&mut self, random: &mut Random) {
-        let stored = self.rows[self.row].terms[..20].to_vec();
+        let stored = self.rows[self.row].terms[EXECUTION_IN_TERMS].to_vec();
         let mut other = stored.clone();
         while other == stored {
             other = values::time(random);
@@ -476,7 +487,7 @@ impl Case {
 
     fn fill_up(&mut self) {
         let rows = self.rows.len();
-        self.ledger_length = layout::length_for(rows) + self.ledger_length % 160;
+        self.ledger_length = layout::length_for(rows) + self.ledger_length % ROW_SIZE;
         self.header.capacity = rows as u32;
     }
 
@@ -488,6 +499,13 @@ impl Case {
     fn action(&self) -> String {
         String::from_utf8_lossy(self.message.value(2)).into_owned()
     }
+}
+
+/// A number that a header holds in the place of a size.
+fn wrong_size(random: &mut Random, size: usize) -> u32 {
+    let size = size as u32;
+    let shortest = SHORTEST_LEDGER as u32;
+    *random.pick(&[0, size - 1, size + 1, shortest, size << 8, size | 1 << 31])
 }
 
 /// Caps that are out of range or not their own rounded amount.
@@ -574,7 +592,7 @@ fn spoiled(message: &Message, fault: Layout) -> Vec<u8> {
         Layout::CountZero => bytes[0] = 0,
         Layout::CountTooHigh => bytes[1] = 1,
         Layout::CodeZero => bytes[entry(0)] = 0,
-        Layout::CodeTooHigh => bytes[last] = 26,
+        Layout::CodeTooHigh => bytes[last] = HIGHEST_CODE + 1,
         Layout::CodesEqual => bytes[last] = bytes[last - ENTRY_SIZE],
         Layout::FirstOffset => bytes[entry(0) + 2] += 1,
         Layout::OffsetsEqual => bytes.copy_within(last - 2..last, last + 2),
@@ -586,7 +604,7 @@ fn spoiled(message: &Message, fault: Layout) -> Vec<u8> {
                     .len();
             bytes.truncate(length)
         }
-        Layout::TooLong => bytes.resize(2049, b'0'),
+        Layout::TooLong => bytes.resize(LONGEST_MESSAGE + 1, b'0'),
     }
     bytes
 }

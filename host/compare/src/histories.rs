@@ -34,8 +34,8 @@ pub struct Run {
     pub caps: [u64; 5],
     pub messages: Vec<Vec<u8>>,
     pub verdicts: Vec<u8>,
-    /// The first 146 bytes as each submission left them, over accepted
-    /// messages that wrote a line.
+    /// A line's bytes as each submission left them, over accepted messages
+    /// that wrote a line.
     pub tape: Vec<u8>,
 }
 

@@ -20,6 +20,7 @@ pub mod malformed;
 pub mod matrix;
 pub mod message;
 pub mod mix;
+pub mod order;
 pub mod random;
 pub mod sound;
 pub mod tally;

@@ -2,6 +2,8 @@
 
 /// The highest element code.
 pub const HIGHEST_CODE: u8 = 25;
+/// The longest message.
+pub const LONGEST_MESSAGE: usize = 2_048;
 /// The bytes of the count.
 pub const COUNT_SIZE: usize = 2;
 /// The bytes of an entry: a code and an offset.

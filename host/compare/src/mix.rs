@@ -5,7 +5,7 @@ use crate::cycles::{next_message, Model};
 use crate::faults::{self, Case, Fault};
 use crate::garbage;
 use crate::judge::Judge;
-use crate::layout;
+use crate::layout::{self, ROW_SIZE};
 use crate::matrix::ACTIONS;
 use crate::random::Random;
 use crate::tally::Tally;
@@ -66,7 +66,7 @@ impl Mix {
     /// Opens another ledger for life cycles.
     fn open(&mut self) -> Result<(), Mismatch> {
         let rows = *self.random.pick(&[1, 2, 3, 7, 20, 60, 400]);
-        let length = layout::length_for(rows) + self.random.below(160);
+        let length = layout::length_for(rows) + self.random.below(ROW_SIZE);
         let caps = values::caps(&mut self.random);
         self.long.set_ledger(&self.random.bytes(length));
         self.long.try_open(&caps)?;
@@ -78,7 +78,7 @@ impl Mix {
     /// A step of a life cycle, held to the model.
     fn life(&mut self) -> Result<(), Mismatch> {
         let message = next_message(&mut self.random, &self.model, &self.utis);
-        let length = self.tape_length();
+        let length = values::any_tape_length(&mut self.random);
         self.long.set_tape(&self.random.bytes(length));
         let answer = self.long.try_submit(&message.encode())?;
         let due = self.model.submit(&message, length);
@@ -101,13 +101,6 @@ impl Mix {
             return Err(Mismatch::new(uti, answer, "the model says otherwise"));
         }
         Ok(())
-    }
-
-    fn tape_length(&mut self) -> usize {
-        if self.random.once_in(15) {
-            return self.random.below(146);
-        }
-        self.random.between(146, 200)
     }
 
     /// A case with up to four faults.
@@ -163,7 +156,7 @@ impl Mix {
     }
 
     fn submit_single(&mut self, message: &[u8]) -> Result<(), Mismatch> {
-        let length = self.tape_length();
+        let length = values::any_tape_length(&mut self.random);
         self.single.set_tape(&self.random.bytes(length));
         self.single.try_submit(message)?;
         self.ask_single()

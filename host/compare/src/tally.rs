@@ -1,12 +1,14 @@
 //! Counts of what was asked and answered.
 
-use sdr::Answer;
+use crate::message::HIGHEST_CODE;
+use crate::order::{HIGHEST_VERDICT, OPENING, SUBMITTING};
+use sdr::{Answer, ACCEPTED};
 use std::fmt;
 
-/// One more than the highest verdict number.
-const VERDICTS: usize = 19;
-/// One more than the highest element code.
-const CODES: usize = 26;
+/// The verdict numbers, from 0.
+const VERDICTS: usize = HIGHEST_VERDICT as usize + 1;
+/// The element codes, and 0 for none.
+const CODES: usize = HIGHEST_CODE as usize + 1;
 
 /// How often each verdict, with each element, was answered.
 #[derive(Clone)]
@@ -83,7 +85,8 @@ impl fmt::Display for Tally {
             "{} openings, {} submissions, {} questions; verdicts",
             self.openings, self.submissions, self.questions
         )?;
-        for verdict in 0..VERDICTS as u8 {
+        let refusals = OPENING.into_iter().chain(SUBMITTING);
+        for verdict in [ACCEPTED].into_iter().chain(refusals) {
             write!(out, " {}:{}", verdict, self.verdict(verdict))?;
         }
         Ok(())

@@ -1,7 +1,8 @@
 //! What a line shows: the masked notional, the price, the masked terms.
 
-use crate::layout::{LINE_SIZE, TERMS_IN_LINE, TERMS_SIZE};
+use crate::layout::*;
 use crate::message::Message;
+use std::ops::Range;
 
 /// The asset classes, in the order of the caps.
 pub const CLASSES: [&str; 5] = ["CR", "IR", "FX", "EQ", "CO"];
@@ -108,27 +109,32 @@ fn cap_of(message: &Message, caps: &[u64; 5]) -> u64 {
 /// The masked terms of a sound full message.
 pub fn terms_of(message: &Message, caps: &[u64; 5]) -> [u8; TERMS_SIZE] {
     let (amount, plus) = masked(message.value(20), cap_of(message, caps));
-    let mut terms = Vec::new();
-    let mut field = |length: usize, text: &[u8]| {
-        terms.extend(text);
-        terms.resize(terms.len() + length - text.len(), b' ');
+    let mut line = [b' '; LINE_SIZE];
+    let mut put = |field: Range<usize>, text: &[u8]| {
+        line[field][..text.len()].copy_from_slice(text);
     };
-    field(20, message.value(6));
-    field(10, message.value(7));
-    field(10, message.value(8));
-    field(1, message.value(10));
-    for code in [11, 12, 13, 15] {
-        field(1, shown_truth(message, code));
-    }
-    field(20, &price_of(message));
-    field(1, shown(message, 18));
-    field(3, shown(message, 19));
-    field(2, message.value(25));
-    field(16, format!("{amount:016}").as_bytes());
-    field(1, if plus { b"+" } else { b"" });
-    field(3, message.value(21));
-    field(2, message.value(22));
-    terms.try_into().expect("the terms have their size")
+    put(EXECUTION_IN_LINE, message.value(6));
+    put(EFFECTIVE_IN_LINE, message.value(7));
+    put(EXPIRATION_IN_LINE, message.value(8));
+    put(CLEARED_IN_LINE, message.value(10));
+    put(NON_STANDARDIZED_IN_LINE, shown_truth(message, 11));
+    put(BLOCK_IN_LINE, shown_truth(message, 12));
+    put(LARGE_IN_LINE, shown_truth(message, 13));
+    put(PACKAGE_IN_LINE, shown_truth(message, 15));
+    put(PRICE_IN_LINE, &price_of(message));
+    put(NOTATION_IN_LINE, shown(message, 18));
+    put(PRICE_CURRENCY_IN_LINE, shown(message, 19));
+    put(CLASS_IN_LINE, message.value(25));
+    put(NOTIONAL_IN_LINE, &digits(amount, NOTIONAL_SIZE));
+    put(PLUS_IN_LINE, if plus { b"+" } else { b"" });
+    put(CURRENCY_IN_LINE, message.value(21));
+    put(LOCATION_IN_LINE, message.value(22));
+    line[TERMS_IN_LINE].try_into().expect("the terms' size")
+}
+
+/// A number in so many digits, zero padded.
+fn digits(number: u64, size: usize) -> Vec<u8> {
+    format!("{number:0size$}").into_bytes()
 }
 
 /// The value where its "if" is met, else nothing.
@@ -163,16 +169,16 @@ pub fn line_of(
     terms: &[u8; TERMS_SIZE],
 ) -> [u8; LINE_SIZE] {
     let mut line = [b' '; LINE_SIZE];
-    line[0..12].copy_from_slice(format!("{identifier:012}").as_bytes());
+    line[IDENTIFIER_IN_LINE].copy_from_slice(&digits(identifier, DIGITS_SIZE));
     if let Some(previous) = previous {
-        line[12..24].copy_from_slice(format!("{previous:012}").as_bytes());
+        line[PREVIOUS_IN_LINE].copy_from_slice(&digits(previous, DIGITS_SIZE));
     }
-    line[24..28].copy_from_slice(message.value(2));
+    line[ACTION_IN_LINE].copy_from_slice(message.value(2));
     if let Some(event) = message.get(3) {
-        line[28..32].copy_from_slice(event);
+        line[EVENT_IN_LINE].copy_from_slice(event);
     }
-    line[32..52].copy_from_slice(message.value(4));
+    line[EVENT_TIME_IN_LINE].copy_from_slice(message.value(4));
     line[TERMS_IN_LINE].copy_from_slice(terms);
-    line[LINE_SIZE - 1] = b'\n';
+    line[NEWLINE_IN_LINE].copy_from_slice(b"\n");
     line
 }

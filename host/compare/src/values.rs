@@ -1,5 +1,6 @@
 //! Random values that keep their form.
 
+use crate::layout::{LINE_SIZE, UTI_SIZE};
 use crate::random::Random;
 use crate::terms::{masked, rounded};
 
@@ -42,9 +43,27 @@ const LANDMARKS: [u64; 24] = [
     1_000_000_000_000_000,
 ];
 
-/// A UTI of 21 to 52 characters.
+/// The most bytes behind the line in a tape buffer.
+const SPARE: usize = 54;
+/// The shortest UTI.
+const SHORTEST_UTI: usize = 21;
+
+/// The length of a tape buffer that takes a line.
+pub fn tape_length(random: &mut Random) -> usize {
+    random.between(LINE_SIZE, LINE_SIZE + SPARE)
+}
+
+/// The length of a tape buffer, seldom too short.
+pub fn any_tape_length(random: &mut Random) -> usize {
+    if random.once_in(15) {
+        return random.below(LINE_SIZE);
+    }
+    tape_length(random)
+}
+
+/// A UTI, often of a length at a bound.
 pub fn uti(random: &mut Random) -> Vec<u8> {
-    let length = *random.pick(&[21, 22, 35, 42, 51, 52]);
+    let length = *random.pick(&[SHORTEST_UTI, 22, 35, 42, 51, UTI_SIZE]);
     random.text(length, CAPITALS_DIGITS)
 }
 
@@ -68,8 +87,8 @@ pub fn similar_uti(random: &mut Random, other: &[u8]) -> Vec<u8> {
     let mut uti = other.to_vec();
     let last = uti.len() - 1;
     match random.below(5) {
-        0 if uti.len() < 52 => uti.push(*random.pick(CAPITALS_DIGITS)),
-        1 if uti.len() > 21 => uti.truncate(last),
+        0 if uti.len() < UTI_SIZE => uti.push(*random.pick(CAPITALS_DIGITS)),
+        1 if uti.len() > SHORTEST_UTI => uti.truncate(last),
         2 => uti[0] = *random.pick(CAPITALS_DIGITS),
         3 => uti[last] = *random.pick(CAPITALS_DIGITS),
         _ => uti[last / 2] = *random.pick(CAPITALS_DIGITS),

@@ -2,9 +2,12 @@
 //! step to each side. What is expected is derived by hand.
 
 use compare::compared::Compared;
-use compare::layout::{self, length_for, Header, Row, HIGHEST_NEXT, LINE_SIZE};
-use compare::layout::{NOTIONAL_IN_LINE, PLUS_IN_LINE, PRICE_IN_LINE};
-use compare::message::Message;
+use compare::layout::{self, length_for, Header, Row, CAPACITY_IN_HEADER, HEADER_SIZE};
+use compare::layout::{CLASS_IN_LINE, IDENTIFIER_IN_LINE, NEWLINE_IN_LINE, NOTIONAL_IN_LINE};
+use compare::layout::{HIGHEST_NEXT, LARGEST_CAPACITY, LINE_SIZE, NEXT_IN_HEADER};
+use compare::layout::{NOTIONAL_SIZE, SHORTEST_LEDGER, UTI_SIZE};
+use compare::layout::{PLUS_IN_LINE, PREVIOUS_IN_LINE, PRICE_IN_LINE, PRICE_SIZE};
+use compare::message::{Message, HIGHEST_CODE, LONGEST_MESSAGE};
 use compare::sound::{plain_new, plain_package, plain_short};
 use compare::terms::{terms_of, CLASSES};
 use compare::values::{lei_of, remainder};
@@ -39,8 +42,8 @@ fn lengths_of_a_uti() {
         (1, (9, 1)),
         (20, (9, 1)),
         (21, (0, 0)),
-        (52, (0, 0)),
-        (53, (9, 1)),
+        (UTI_SIZE, (0, 0)),
+        (UTI_SIZE + 1, (9, 1)),
     ] {
         let uti = "A".repeat(length);
         assert_eq!(judged_with(1, &uti), due, "{length}");
@@ -60,12 +63,16 @@ fn lengths_of_a_message() {
     assert_eq!(judged(&[0, 1]), (5, 0));
     assert_eq!(judged(&[1, 0, 1, 0, 6, 0]), (5, 0));
     assert_eq!(judged(&[1, 0, 1, 0, 6, 0, b'A']), (6, 2));
-    assert_eq!(judged(&[1, 0, 25, 0, 6, 0, b'A']), (6, 2));
-    assert_eq!(judged(&[1, 0, 26, 0, 6, 0, b'A']), (5, 0));
+    assert_eq!(judged(&[1, 0, HIGHEST_CODE, 0, 6, 0, b'A']), (6, 2));
+    assert_eq!(judged(&[1, 0, HIGHEST_CODE + 1, 0, 6, 0, b'A']), (5, 0));
     assert_eq!(judged(&[1, 0, 0, 0, 6, 0, b'A']), (5, 0));
     assert_eq!(judged(&[1, 0, 1, 0, 5, 0, b'A']), (5, 0));
     assert_eq!(judged(&[1, 0, 1, 0, 7, 0, b'A']), (5, 0));
-    for (length, due) in [(2047, (9, 16)), (2048, (9, 16)), (2049, (5, 0))] {
+    for (length, due) in [
+        (LONGEST_MESSAGE - 1, (9, 16)),
+        (LONGEST_MESSAGE, (9, 16)),
+        (LONGEST_MESSAGE + 1, (5, 0)),
+    ] {
         assert_eq!(judged(&message_of_length(length)), due, "{length}");
     }
 }
@@ -79,10 +86,10 @@ fn message_of_length(length: usize) -> Vec<u8> {
 }
 
 #[test]
-fn twenty_five_elements() {
+fn all_elements_at_once() {
     let mut message = plain_package("1", "5");
     message.set(11, "True").set(22, "US");
-    assert_eq!(message.codes().len(), 25);
+    assert_eq!(message.codes().len(), usize::from(HIGHEST_CODE));
     assert_eq!(judged(&message.encode()), (0, 0));
     assert_eq!(judged(&message.with(25, "XX").encode()), (9, 25));
 }
@@ -191,7 +198,7 @@ fn prices_as_shown() {
             compared.submit(&plain_package("1", price).encode()).verdict,
             0
         );
-        let due = format!("{shown:20}");
+        let due = format!("{shown:PRICE_SIZE$}");
         assert_eq!(compared.tape()[PRICE_IN_LINE], *due.as_bytes(), "{price}");
     }
 }
@@ -203,7 +210,7 @@ fn shown(amount: &str, cap: u64) -> (u64, char) {
     assert_eq!(answer.verdict, 0, "{amount}");
     let text = String::from_utf8_lossy(&compared.tape()[NOTIONAL_IN_LINE]).into_owned();
     let number = text.parse().expect("the notional is a number");
-    (number, char::from(compared.tape()[PLUS_IN_LINE]))
+    (number, char::from(compared.tape()[PLUS_IN_LINE][0]))
 }
 
 /// Amounts at bounds and ties, and 0.00001 beside them, with what is shown.
@@ -328,8 +335,9 @@ fn each_class_has_its_own_cap() {
         let mut compared = opened(caps);
         let message = plain_new().with(25, class).with(20, "5000");
         assert_eq!(compared.submit(&message.encode()).verdict, 0);
-        let due = format!("{class}{cap:016}+");
-        assert_eq!(compared.tape()[121..140], *due.as_bytes());
+        let due = format!("{class}{cap:0NOTIONAL_SIZE$}+");
+        let shown = CLASS_IN_LINE.start..PLUS_IN_LINE.end;
+        assert_eq!(compared.tape()[shown], *due.as_bytes());
     }
 }
 
@@ -501,22 +509,24 @@ fn check_digits_of_a_lei() {
 #[test]
 fn lengths_of_a_ledger() {
     for (length, verdict, capacity) in [
-        (223, 1, 0),
-        (224, 0, 1),
-        (225, 0, 1),
-        (383, 0, 1),
-        (384, 0, 2),
-        (16_000_063, 0, 99_999),
-        (16_000_064, 0, 100_000),
-        (16_000_065, 0, 100_000),
-        (16_000_224, 0, 100_000),
+        (SHORTEST_LEDGER - 1, 1, 0),
+        (SHORTEST_LEDGER, 0, 1),
+        (SHORTEST_LEDGER + 1, 0, 1),
+        (length_for(2) - 1, 0, 1),
+        (length_for(2), 0, 2),
+        (length_for(LARGEST_CAPACITY) - 1, 0, LARGEST_CAPACITY - 1),
+        (length_for(LARGEST_CAPACITY), 0, LARGEST_CAPACITY),
+        (length_for(LARGEST_CAPACITY) + 1, 0, LARGEST_CAPACITY),
+        (length_for(LARGEST_CAPACITY + 1), 0, LARGEST_CAPACITY),
     ] {
         let mut compared = Compared::new();
         compared.set_ledger(&vec![0xee; length]);
         assert_eq!(compared.open(&CAPS).verdict, verdict, "{length}");
         if verdict == 0 {
-            assert_eq!(layout::u32_at(compared.ledger(), 60), capacity, "{length}");
-            assert!(compared.ledger()[64..].iter().all(|&byte| byte == 0xee));
+            let written = layout::u32_at(compared.ledger(), CAPACITY_IN_HEADER);
+            assert_eq!(written as usize, capacity, "{length}");
+            let behind = &compared.ledger()[HEADER_SIZE..];
+            assert!(behind.iter().all(|&byte| byte == 0xee));
             assert_eq!(compared.status(&[b'A'; 21]), Answer::default());
         }
     }
@@ -524,7 +534,12 @@ fn lengths_of_a_ledger() {
 
 #[test]
 fn rows_up_to_capacity() {
-    for (length, rows) in [(224, 1), (383, 1), (384, 2), (length_for(5) + 159, 5)] {
+    for (length, rows) in [
+        (SHORTEST_LEDGER, 1),
+        (length_for(2) - 1, 1),
+        (length_for(2), 2),
+        (length_for(6) - 1, 5),
+    ] {
         let mut compared = Compared::new();
         compared.set_ledger(&vec![0xee; length]);
         compared.set_tape(&[b'x'; LINE_SIZE]);
@@ -574,8 +589,9 @@ fn the_next_identifier_at_its_end() {
     for message in [&new, &ended] {
         let (answer, compared) = submit_to(&in_use(HIGHEST_NEXT - 1, 1), message);
         assert_eq!((answer.verdict, answer.identifier), (0, 999_999_999_999));
-        assert_eq!(compared.tape()[..12], *b"999999999999");
-        assert_eq!(layout::u64_at(compared.ledger(), 8), HIGHEST_NEXT);
+        assert_eq!(compared.tape()[IDENTIFIER_IN_LINE], *b"999999999999");
+        let next = layout::u64_at(compared.ledger(), NEXT_IN_HEADER);
+        assert_eq!(next, HIGHEST_NEXT);
         assert_eq!(submit_to(&in_use(HIGHEST_NEXT, 1), message).0.verdict, 18);
         assert_eq!(
             submit_to(&in_use(HIGHEST_NEXT + 1, 1), message).0.verdict,
@@ -634,7 +650,14 @@ fn a_row_s_identifier_at_its_ends() {
 
 #[test]
 fn lengths_of_a_tape_buffer() {
-    for (length, verdict) in [(0, 4), (1, 4), (145, 4), (146, 0), (147, 0), (1000, 0)] {
+    for (length, verdict) in [
+        (0, 4),
+        (1, 4),
+        (LINE_SIZE - 1, 4),
+        (LINE_SIZE, 0),
+        (LINE_SIZE + 1, 0),
+        (1000, 0),
+    ] {
         for message in [plain_new(), plain_short("PRTO", Some("PTNG"))] {
             let mut compared = Compared::new();
             let known = message.value(2) == b"PRTO";
@@ -647,8 +670,10 @@ fn lengths_of_a_tape_buffer() {
             if known {
                 assert!(compared.tape().iter().all(|&byte| byte == b'x'));
             } else if verdict == 0 {
-                assert_eq!(compared.tape()[145], b'\n');
-                assert!(compared.tape()[146..].iter().all(|&byte| byte == b'x'));
+                assert_eq!(compared.tape()[NEWLINE_IN_LINE], *b"\n");
+                assert!(compared.tape()[LINE_SIZE..]
+                    .iter()
+                    .all(|&byte| byte == b'x'));
             }
         }
     }
@@ -671,7 +696,7 @@ fn a_hundred_thousand_rows() {
     assert_eq!(compared.submit(&swap(100_000).encode()).verdict, 17);
     let changed = swap(99_999).with(2, "MODI");
     assert_eq!(compared.submit(&changed.encode()).identifier, 200_000);
-    assert_eq!(compared.tape()[12..24], *b"000000100000");
+    assert_eq!(compared.tape()[PREVIOUS_IN_LINE], *b"000000100000");
     let answer = compared.status(swap(99_999).value(1));
     assert_eq!((answer.status, answer.identifier), (1, 200_000));
 }

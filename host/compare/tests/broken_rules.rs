@@ -1,16 +1,17 @@
 //! One rule broken, two rules broken, several rules broken: the verdict due
-//! is that of the lowest number, with the lowest element at fault.
+//! is that of the first in checking order, with the lowest element at fault.
 
 use compare::compared::Compared;
-use compare::faults::{self, Case, Fault, CONDITIONAL, NEEDED_BY_ALL, NEEDED_BY_FULL};
-use compare::layout::length_for;
+use compare::faults::{self, Case, Fault, HIGHEST_SHORT};
+use compare::faults::{CONDITIONAL, NEEDED_BY_ALL, NEEDED_BY_FULL};
+use compare::layout::{length_for, HEADER_SIZE, SHORTEST_LEDGER};
 use compare::malformed;
 use compare::matrix::{is_full, ACTIONS};
-use compare::message::described;
+use compare::message::{described, HIGHEST_CODE};
+use compare::order::SUBMITTING;
 use compare::random::Random;
 use compare::tally::Tally;
 use compare::{submissions, values};
-use std::ops::RangeInclusive;
 
 /// Submits the case with the faults and holds both judges to what is due.
 fn try_faults(compared: &mut Compared, random: &mut Random, action: &str, faults: &[Fault]) {
@@ -62,7 +63,7 @@ fn one_rule_broken() {
         }
     }
     println!("one rule: {}", compared.tally);
-    every_verdict_was_met(&compared.tally, 3..=18);
+    every_verdict_was_met(&compared.tally, &SUBMITTING);
     every_element_was_met(&compared.tally);
 }
 
@@ -79,8 +80,8 @@ fn two_rules_broken() {
         }
     }
     println!("two rules: {}", compared.tally);
-    // 18 is the last rule: it is never the lower of two.
-    every_verdict_was_met(&compared.tally, 3..=17);
+    // The last rule is never the first of two.
+    every_verdict_was_met(&compared.tally, &SUBMITTING[..SUBMITTING.len() - 1]);
     every_element_was_met(&compared.tally);
 }
 
@@ -102,7 +103,11 @@ fn every_malformed_value() {
     let mut random = Random::for_test(105);
     let mut compared = Compared::new();
     for action in ACTIONS {
-        let highest = if is_full(action) { 25 } else { 5 };
+        let highest = if is_full(action) {
+            HIGHEST_CODE
+        } else {
+            HIGHEST_SHORT
+        };
         for code in 1..=highest {
             for value in malformed::values(code) {
                 let mut case = Case::sound(&mut random, action);
@@ -118,7 +123,7 @@ fn every_malformed_value() {
         }
     }
     println!("malformed values: {}", compared.tally);
-    for code in (1..=25).filter(|&code| code != 2) {
+    for code in (1..=HIGHEST_CODE).filter(|&code| code != 2) {
         assert!(compared.tally.element(9, code) >= 4, "9 with {code}");
     }
 }
@@ -128,7 +133,8 @@ fn opening_refuses_1_before_2() {
     let mut random = Random::for_test(106);
     let mut compared = Compared::new();
     let wrong = [0, 995, 1_050, 250_400_000, 1_000_000_000_000_001, u64::MAX];
-    for length in [0, 1, 63, 64, 65, 223] {
+    let about_the_header = [HEADER_SIZE - 1, HEADER_SIZE, HEADER_SIZE + 1];
+    for length in [&[0, 1], &about_the_header[..], &[SHORTEST_LEDGER - 1]].concat() {
         compared.set_ledger(&random.bytes(length));
         assert_eq!(compared.open(&values::caps(&mut random)).verdict, 1);
         assert_eq!(compared.open(&[wrong[0]; 5]).verdict, 1);
@@ -147,9 +153,9 @@ fn opening_refuses_1_before_2() {
     assert!((0..=2).all(|verdict| compared.tally.verdict(verdict) > 0));
 }
 
-fn every_verdict_was_met(tally: &Tally, verdicts: RangeInclusive<u8>) {
+fn every_verdict_was_met(tally: &Tally, verdicts: &[u8]) {
     for verdict in verdicts {
-        assert!(tally.verdict(verdict) > 0, "verdict {verdict}");
+        assert!(tally.verdict(*verdict) > 0, "verdict {verdict}");
     }
 }
 
@@ -159,10 +165,10 @@ fn every_element_was_met(tally: &Tally) {
     for code in NEEDED_BY_ALL.into_iter().chain(NEEDED_BY_FULL) {
         assert!(tally.element(7, code) > 0, "7 with {code}");
     }
-    for code in 6..=25 {
+    for code in HIGHEST_SHORT + 1..=HIGHEST_CODE {
         assert!(tally.element(8, code) > 0, "8 with {code}");
     }
-    for code in (1..=25).filter(|&code| code != 2) {
+    for code in (1..=HIGHEST_CODE).filter(|&code| code != 2) {
         assert!(tally.element(9, code) > 0, "9 with {code}");
     }
     for code in CONDITIONAL {

@@ -3,7 +3,9 @@
 use compare::compared::Compared;
 use compare::cycles::{next_message, Model};
 use compare::garbage::flip;
-use compare::layout::{self, length_for, Header, Row, LINE_SIZE};
+use compare::layout::{self, length_for, Header, Row, EXECUTION_IN_TERMS, HEADER_SIZE};
+use compare::layout::{HIGHEST_NEXT, LARGEST_CAPACITY, LINE_SIZE, PREVIOUS_IN_LINE};
+use compare::layout::{ROW_SIZE, SHORTEST_LEDGER, TERMS_IN_LINE};
 use compare::message::Message;
 use compare::random::Random;
 use compare::sound::{plain_new, plain_short};
@@ -54,6 +56,23 @@ fn verdicts(ledger: &[u8]) -> (u8, u8) {
     (submitted, asked)
 }
 
+/// Numbers that are not this size, among them the other sizes of a ledger.
+fn other_sizes(size: usize) -> Vec<u32> {
+    let others = [
+        0,
+        size - 1,
+        size + 1,
+        HEADER_SIZE,
+        ROW_SIZE,
+        SHORTEST_LEDGER,
+        size << 8,
+        size << 24,
+        u32::MAX as usize,
+    ];
+    let others = others.into_iter().filter(|&other| other != size);
+    others.map(|other| other as u32).collect()
+}
+
 #[test]
 fn each_field_of_the_header() {
     let length = length_for(5) + 9;
@@ -68,16 +87,16 @@ fn each_field_of_the_header() {
     for rows in [6, 7, 256, 1 << 24, u32::MAX] {
         add(&|header| header.rows = rows);
     }
-    for first in [0, 63, 65, 160, 224, 64 << 8, 64 << 24, u32::MAX] {
+    for first in other_sizes(HEADER_SIZE) {
         add(&|header| header.first = first);
     }
-    for next in [0, 1_000_000_000_001, 1 << 40, 1 << 63, u64::MAX] {
+    for next in [0, HIGHEST_NEXT + 1, 1 << 40, 1 << 63, u64::MAX] {
         add(&|header| header.next = next);
     }
-    for row_size in [0, 159, 161, 160 << 8, u32::MAX] {
+    for row_size in other_sizes(ROW_SIZE) {
         add(&|header| header.row_size = row_size);
     }
-    for capacity in [0, 3, 4, 6, 5 << 8, 100_000, u32::MAX] {
+    for capacity in [0, 3, 4, 6, 5 << 8, LARGEST_CAPACITY as u32, u32::MAX] {
         add(&|header| header.capacity = capacity);
     }
     for class in 0..5 {
@@ -96,7 +115,7 @@ fn headers_that_look_odd_and_are_sound() {
     let length = length_for(5);
     let mut odd = header(length);
     // Next and rows in use need not fit together; rows may equal capacity.
-    odd.next = 1_000_000_000_000;
+    odd.next = HIGHEST_NEXT;
     assert_eq!(verdicts(&ledger_of(&odd, &rows(), length)), (18, 0));
     let mut full = header(length_for(3));
     full.next = 10;
@@ -114,14 +133,14 @@ fn a_ledger_lent_shorter_or_longer() {
     let opened = header(length_for(5));
     for (length, due) in [
         (length_for(5), (0, 0)),
-        (length_for(5) + 159, (0, 0)),
+        (length_for(6) - 1, (0, 0)),
         (length_for(6), (3, 3)),
         (length_for(5) - 1, (3, 3)),
         (length_for(3), (3, 3)),
-        (224, (3, 3)),
-        (223, (3, 3)),
-        (64, (3, 3)),
-        (63, (3, 3)),
+        (SHORTEST_LEDGER, (3, 3)),
+        (SHORTEST_LEDGER - 1, (3, 3)),
+        (HEADER_SIZE, (3, 3)),
+        (HEADER_SIZE - 1, (3, 3)),
         (0, (3, 3)),
     ] {
         let mut ledger = ledger_of(&opened, &rows(), length_for(7));
@@ -186,9 +205,15 @@ fn rows_with_another_length_are_not_the_swap_s() {
 fn padding_terms_and_tail_are_not_judged() {
     assert_eq!(verdicts_with(|row| row.uti[24..].fill(b'Z')), (0, 0));
     assert_eq!(verdicts_with(|row| row.tail = [1, 2, 3, 4, 5]), (0, 0));
-    assert_eq!(verdicts_with(|row| row.terms[20..].fill(0xff)), (0, 0));
+    assert_eq!(
+        verdicts_with(|row| row.terms[EXECUTION_IN_TERMS.end..].fill(0xff)),
+        (0, 0)
+    );
     // All but the execution time, which MODI has to repeat.
-    assert_eq!(verdicts_with(|row| row.terms[19] = b'z'), (16, 0));
+    assert_eq!(
+        verdicts_with(|row| row.terms[EXECUTION_IN_TERMS][19] = b'z'),
+        (16, 0)
+    );
 }
 
 #[test]
@@ -197,7 +222,7 @@ fn a_change_leaves_padding_and_tail() {
     let mut rows = rows();
     rows[1].uti[24..].fill(b'Z');
     rows[1].tail = [9, 8, 7, 6, 5];
-    rows[1].terms[20..].fill(0xff);
+    rows[1].terms[EXECUTION_IN_TERMS.end..].fill(0xff);
     rows[1].status = CLOSED;
     for (message, status) in [
         (plain_new().with(2, "CORR").without(3), CLOSED),
@@ -215,7 +240,7 @@ fn a_change_leaves_padding_and_tail() {
         let mut raised = header(length);
         raised.next += 1;
         assert_eq!(compared.ledger(), ledger_of(&raised, &due, length));
-        assert_eq!(compared.tape()[52..145], due[1].terms);
+        assert_eq!(compared.tape()[TERMS_IN_LINE], due[1].terms);
     }
 }
 
@@ -234,7 +259,7 @@ fn the_first_of_two_rows_with_one_uti_counts() {
     assert_eq!(compared.submit(&changed().encode()).verdict, 15);
     let ended = plain_short("EROR", None);
     assert_eq!(compared.submit(&ended.encode()).identifier, NEXT);
-    assert_eq!(compared.tape()[12..24], *b"000000000011");
+    assert_eq!(compared.tape()[PREVIOUS_IN_LINE], *b"000000000011");
     assert_eq!(compared.ledger()[layout::row_range(2)], rows[2].encode());
     // A bad first row is 14, though the second is sound.
     rows[1].status = 0;
@@ -250,7 +275,7 @@ fn the_first_of_two_rows_with_one_uti_counts() {
 /// A ledger that has seen some life, with its model and the swaps' UTIs.
 fn lived(random: &mut Random) -> (Vec<u8>, Model, Vec<Vec<u8>>) {
     let rows = random.between(2, 12);
-    let length = length_for(rows) + random.below(160);
+    let length = length_for(rows) + random.below(ROW_SIZE);
     let mut model = Model::opened(length, values::caps(random));
     let utis = values::utis(random, rows + 1);
     for _ in 0..30 {
@@ -266,12 +291,16 @@ fn lived(random: &mut Random) -> (Vec<u8>, Model, Vec<Vec<u8>>) {
 fn bytes_of_the_ledger_changed_at_random() {
     let mut random = Random::for_test(401);
     let mut compared = Compared::new();
-    let mut tape = random.bytes(160);
+    let mut tape = random.bytes(LINE_SIZE + 14);
     while compared.tally.submissions < submissions(25_000) {
         let (sound, model, utis) = lived(&mut random);
         for _ in 0..25 {
             let mut ledger = sound.clone();
-            let end = if random.once_in(3) { 64 } else { ledger.len() };
+            let end = if random.once_in(3) {
+                HEADER_SIZE
+            } else {
+                ledger.len()
+            };
             flip(&mut random, &mut ledger[..end]);
             compared.set_ledger(&ledger);
             flip(&mut random, &mut tape);
@@ -293,7 +322,7 @@ fn bytes_of_the_ledger_changed_at_random() {
 fn bytes_of_the_message_changed_at_random() {
     let mut random = Random::for_test(402);
     let mut compared = Compared::new();
-    let tape = random.bytes(150);
+    let tape = random.bytes(LINE_SIZE + 4);
     while compared.tally.submissions < submissions(25_000) {
         let (ledger, model, utis) = lived(&mut random);
         for _ in 0..25 {

@@ -4,7 +4,8 @@
 use checker::day::report;
 use compare::calls::{Calls, Library};
 use compare::dayrun::{check, check_lines, program, Running, Temporary};
-use compare::days::{self, framed, new_swap, of_length, overlong, random_day};
+use compare::days::{self, framed, new_swap, of_length, overlong, random_day, LENGTH_SIZE};
+use compare::message::LONGEST_MESSAGE;
 use compare::random::Random;
 use std::fs::File;
 use std::process::{Command, Stdio};
@@ -69,7 +70,14 @@ fn lines_come_after_random_pieces() {
 }
 
 /// Numbers of bytes after which a buffer of a usual length is just full.
-const EDGES: [usize; 6] = [4_096, 8_192, 32_768, 65_536, 65_536 + 2_050, 131_072];
+const EDGES: [usize; 6] = [
+    4_096,
+    8_192,
+    32_768,
+    65_536,
+    65_536 + LENGTH_SIZE + LONGEST_MESSAGE,
+    131_072,
+];
 
 #[test]
 fn lines_come_where_a_buffer_is_just_full() {
@@ -109,12 +117,12 @@ fn lines_come_from_a_socket_where_a_buffer_is_just_full() {
 
 #[test]
 fn lines_come_while_an_overlong_message_is_half_sent() {
-    for length in [2_049, 30_000, 65_535] {
+    for length in [LONGEST_MESSAGE + 1, 30_000, 65_535] {
         let before = of_length(1_000);
         let start = before.len() + 2;
         let long = framed(&overlong(length));
         let day = [before, long, framed(&new_swap(0)), framed(&[])].concat();
-        for part in [0, 1, 2_047, 2_048, length - 1] {
+        for part in [0, 1, LONGEST_MESSAGE - 1, LONGEST_MESSAGE, length - 1] {
             let stops = [start - 1, start + part, start + length, day.len() - 1];
             let what = format!("{part} of {length} bytes sent");
             check_stops(&day, &stops, &what);
@@ -182,7 +190,7 @@ fn calls_are_few() {
     for count in [10_000, 32_768, 200_000] {
         check_calls(&library, &vec![0; 2 * count], "length 0");
     }
-    for length in [2_049, 65_535] {
+    for length in [LONGEST_MESSAGE + 1, 65_535] {
         let day = framed(&overlong(length)).repeat(2_000_000 / length);
         check_calls(&library, &day, "overlong messages");
     }

@@ -3,8 +3,9 @@
 
 use checker::day::report;
 use compare::dayrun::{check, check_lines, from_file, from_pieces};
-use compare::days::{self, framed, new_swap, of_length, overlong, random_day, wild_day};
-use compare::message::Message;
+use compare::days::{self, framed, new_swap, of_length, overlong, random_day, wild_day, ROWS};
+use compare::message::{Message, LONGEST_MESSAGE};
+use compare::order;
 use compare::random::Random;
 use compare::sound::{plain_new, plain_short};
 use compare::submissions;
@@ -108,22 +109,23 @@ fn a_day_cut_at_every_byte() {
 fn the_longest_message_and_one_byte_more() {
     // Code 16 is to be 1 to 100 letters or digits: 9 where the layout is right.
     let rest = plain_new().with(16, "").encode().len();
-    let longest = plain_new().with(16, "A".repeat(2_048 - rest));
-    let longer = plain_new().with(16, "A".repeat(2_049 - rest));
-    assert_eq!(longest.encode().len(), 2_048);
+    let longest = plain_new().with(16, "A".repeat(LONGEST_MESSAGE - rest));
+    let longer = plain_new().with(16, "A".repeat(LONGEST_MESSAGE + 1 - rest));
+    assert_eq!(longest.encode().len(), LONGEST_MESSAGE);
     let day = days::of(&[longest.encode(), longer.encode(), plain_new().encode()]);
     let due = lines(&["1 9 16 0", "2 5 0 0", "3 0 0 1", "end 3 1"]);
-    check_file(&day, &due, "2,048 and 2,049");
+    check_file(&day, &due, "the longest and one byte more");
 }
 
 #[test]
 fn overlong_messages() {
-    for length in [2_049, 2_050, 4_096, 65_534, 65_535] {
+    let longest = LONGEST_MESSAGE;
+    for length in [longest + 1, longest + 2, 4_096, 65_534, 65_535] {
         let one = framed(&overlong(length));
         let three = [one.clone(), one.clone(), one.clone(), framed(&new_swap(1))].concat();
         let due = lines(&["1 5 0 0", "2 5 0 0", "3 5 0 0", "4 0 0 1", "end 4 1"]);
         check_file(&three, &due, &format!("three of {length}"));
-        for cut in [1, 2, 3, 2_050, length, length + 1] {
+        for cut in [1, 2, 3, longest + 2, length, length + 1] {
             let what = format!("{length} cut at {cut}");
             check_file(&one[..cut], &lines(&["cut 0 0"]), &what);
             let second = [&one, &one[..cut]].concat();
@@ -133,23 +135,23 @@ fn overlong_messages() {
 }
 
 #[test]
-fn the_401st_swap_finds_no_row() {
+fn a_swap_too_many_finds_no_row() {
     let mut day = Vec::new();
     let mut due = String::from("message verdict element record\n");
-    for swap in 1..=400 {
+    for swap in 1..=ROWS {
         day.extend(framed(&new_swap(swap)));
         due += &format!("{swap} 0 0 {swap}\n");
     }
-    day.extend(framed(&new_swap(401)));
-    due += "401 17 0 0\n";
-    let end = format!("{due}end 401 400\n");
-    check_file(&day, end.as_bytes(), "401 swaps");
+    let (more, last) = (ROWS + 1, ROWS + 2);
+    day.extend(framed(&new_swap(more)));
+    due += &format!("{more} 17 0 0\n");
+    let end = format!("{due}end {more} {ROWS}\n");
+    check_file(&day, end.as_bytes(), "a swap too many");
     // A swap that has a row goes on.
-    day.extend(framed(
-        &plain_modi().with(1, "1000000000SWAP0000000400").encode(),
-    ));
-    let end = format!("{due}402 0 0 401\nend 402 401\n");
-    check_file(&day, end.as_bytes(), "401 swaps and a MODI");
+    let known = format!("1000000000SWAP{ROWS:010}");
+    day.extend(framed(&plain_modi().with(1, known).encode()));
+    let end = format!("{due}{last} 0 0 {more}\nend {last} {more}\n");
+    check_file(&day, end.as_bytes(), "a swap too many and a MODI");
 }
 
 /// The stored days, seen from this package, and the one that is the program's
@@ -205,7 +207,7 @@ fn random_days() {
         cuts += u32::from(messages_end(&day) < day.len());
     }
     println!("{number} random days, {cuts} of them cut: {tally}");
-    for verdict in [0, 5, 6, 7, 8, 9, 10, 11, 12, 13, 15, 16, 17] {
+    for verdict in [&[0], order::from_to(5, 13), &[15, 16, 17]].concat() {
         assert!(tally.verdict(verdict) > 0, "verdict {verdict}");
     }
     assert!(cuts > 0 && cuts < number);

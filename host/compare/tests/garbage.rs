@@ -3,8 +3,9 @@
 
 use compare::compared::Compared;
 use compare::garbage::{noise, wild_message};
-use compare::layout::{length_for, Header, LINE_SIZE};
+use compare::layout::{length_for, Header, HEADER_SIZE, HIGHEST_NEXT, LINE_SIZE, ROW_SIZE};
 use compare::matrix::ACTIONS;
+use compare::message::{HIGHEST_CODE, LONGEST_MESSAGE};
 use compare::random::Random;
 use compare::sound::{self, plain_new, plain_package};
 use compare::{submissions, values};
@@ -16,7 +17,7 @@ fn noise_in_all_buffers() {
     for _ in 0..submissions(25_000) {
         compared.set_ledger(&noise_ledger(&mut random));
         compared.set_tape(&noise(&mut random, 300));
-        compared.submit(&noise(&mut random, 2_100));
+        compared.submit(&noise(&mut random, LONGEST_MESSAGE + 52));
         compared.status(&noise(&mut random, 60));
     }
     println!("noise: {}", compared.tally);
@@ -30,12 +31,12 @@ fn noise_ledger(random: &mut Random) -> Vec<u8> {
     if random.once_in(2) {
         return noise(random, 1_000);
     }
-    let length = length_for(random.between(1, 4)) + random.below(160);
+    let length = length_for(random.between(1, 4)) + random.below(ROW_SIZE);
     let mut ledger = random.bytes(length);
     let mut header = Header::opened(length, values::caps(random));
     header.rows = random.below(header.capacity as usize + 1) as u32;
-    header.next = 1 + random.bits() % 1_000_000_000_000;
-    ledger[..64].copy_from_slice(&header.encode());
+    header.next = 1 + random.bits() % HIGHEST_NEXT;
+    ledger[..HEADER_SIZE].copy_from_slice(&header.encode());
     ledger
 }
 
@@ -61,7 +62,7 @@ fn wild_values_under_a_sound_action() {
         let uti = values::uti(&mut random);
         let mut message = sound::message(&mut random, action, &uti);
         for _ in 0..random.between(1, 3) {
-            let code = random.between(1, 25) as u8;
+            let code = random.between(1, HIGHEST_CODE.into()) as u8;
             if code != 2 && message.has(code) {
                 let length = random.between(1, 30);
                 let value = random.text(length, b"0123456789.-:TZAYaz ");
@@ -74,10 +75,13 @@ fn wild_values_under_a_sound_action() {
     assert!(compared.tally.verdict(9) > 0);
 }
 
+/// A tape buffer with some bytes behind the line.
+const TAPE: usize = LINE_SIZE + 24;
+
 fn opened(random: &mut Random) -> Compared {
     let mut compared = Compared::new();
     compared.set_ledger(&random.bytes(length_for(3)));
-    compared.set_tape(&random.bytes(170));
+    compared.set_tape(&random.bytes(TAPE));
     assert_eq!(compared.open(&[250_000_000; 5]).verdict, 0);
     compared
 }
@@ -105,12 +109,12 @@ fn every_prefix_of_a_sound_message() {
 fn extended_messages() {
     let mut random = Random::for_test(505);
     let bytes = plain_new().encode();
-    for more in 1..=2_100 {
+    for more in 1..=LONGEST_MESSAGE + 52 {
         let mut compared = opened(&mut random);
         let mut longer = bytes.clone();
         longer.extend(random.bytes(more));
         let answer = compared.submit(&longer);
-        let due = if longer.len() > 2_048 {
+        let due = if longer.len() > LONGEST_MESSAGE {
             (5, 0)
         } else {
             (9, 25)
@@ -135,6 +139,6 @@ fn prefixes_of_random_messages() {
     }
     println!("prefixes: {}", compared.tally);
     assert!(compared.tally.verdict(5) > 0);
-    assert_eq!(compared.tape().len(), 170);
+    assert_eq!(compared.tape().len(), TAPE);
     assert!(compared.tape().len() > LINE_SIZE);
 }

@@ -3,10 +3,11 @@
 
 use compare::compared::Compared;
 use compare::cycles::{next_message, Model};
+use compare::faults::HIGHEST_SHORT;
 use compare::histories::{broken_premises, run, Call, History, Premise};
-use compare::layout::{length_for, LINE_SIZE};
+use compare::layout::{length_for, LINE_SIZE, NEXT_IN_HEADER, ROW_SIZE};
 use compare::malformed;
-use compare::message::Message;
+use compare::message::{Message, HIGHEST_CODE};
 use compare::random::Random;
 use compare::sound::{self, plain_new, plain_package};
 use compare::terms::{applies, is_true, CLASSES};
@@ -47,10 +48,16 @@ fn pair_of_histories(random: &mut Random) -> (History, History) {
 fn lengths(random: &mut Random) -> (usize, usize) {
     if random.once_in(2) {
         let rows = random.between(1, SWAPS - 1);
-        return (length_for(rows), length_for(rows) + random.between(1, 159));
+        return (
+            length_for(rows),
+            length_for(rows) + random.between(1, ROW_SIZE - 1),
+        );
     }
     let longer = SWAPS + random.between(1, 9);
-    (length_for(SWAPS), length_for(longer) + random.below(160))
+    (
+        length_for(SWAPS),
+        length_for(longer) + random.below(ROW_SIZE),
+    )
 }
 
 fn history(random: &mut Random, length: usize, caps: [u64; 5], calls: Vec<Call>) -> History {
@@ -64,7 +71,7 @@ fn history(random: &mut Random, length: usize, caps: [u64; 5], calls: Vec<Call>)
 
 /// A call with old bytes in the tape buffer.
 fn call(random: &mut Random, message: Vec<u8>) -> Call {
-    let length = random.between(LINE_SIZE, 170);
+    let length = values::tape_length(random);
     let tape = random.bytes(length);
     Call { message, tape }
 }
@@ -150,7 +157,10 @@ fn refused(random: &mut Random, verdict: u8) -> Call {
         }
         6 => full.with(2, random.pick(&malformed::values(2))),
         7 => full.without(*random.pick(&[1, 4, 5, 6, 9, 12, 20, 25])),
-        8 => short.with(random.between(6, 25) as u8, "value"),
+        8 => {
+            let codes: Vec<u8> = (HIGHEST_SHORT + 1..=HIGHEST_CODE).collect();
+            short.with(*random.pick(&codes), "value")
+        }
         9 => {
             let code = *random.pick(&[1, 3, 4, 7, 9, 10, 15, 17, 20, 22, 23, 24, 25]);
             full.with(code, random.pick(&malformed::values(code)))
@@ -336,7 +346,7 @@ fn caps_broken() {
 fn an_opening_broken() {
     let first = ending_with(swap(3));
     let mut moved = ending_with(swap(3));
-    moved.tampering = (8, 2u64.to_le_bytes().to_vec());
+    moved.tampering = (NEXT_IN_HEADER.start, 2u64.to_le_bytes().to_vec());
     assert_eq!(
         compare_histories(&first, &moved),
         (vec![Premise::Opening], true)

@@ -3,7 +3,8 @@
 
 use compare::compared::Compared;
 use compare::cycles::{next_message, Model};
-use compare::layout::{self, HIGHEST_NEXT, LARGEST_CAPACITY, LINE_SIZE};
+use compare::layout::{self, length_for, HIGHEST_NEXT, LARGEST_CAPACITY, LINE_SIZE};
+use compare::layout::{ROW_SIZE, SHORTEST_LEDGER};
 use compare::matrix::{self, ACTIONS};
 use compare::message::{described, Message};
 use compare::random::Random;
@@ -13,15 +14,15 @@ use std::collections::BTreeSet;
 
 /// Lengths of ledgers, from one row to 400.
 const LENGTHS: [usize; 9] = [
-    224,
-    383,
-    384,
-    layout::HEADER_SIZE + 3 * 160 + 17,
-    layout::HEADER_SIZE + 8 * 160 + 159,
-    layout::HEADER_SIZE + 20 * 160,
-    layout::HEADER_SIZE + 60 * 160 + 1,
-    layout::HEADER_SIZE + 150 * 160,
-    layout::HEADER_SIZE + 400 * 160,
+    SHORTEST_LEDGER,
+    length_for(2) - 1,
+    length_for(2),
+    length_for(3) + 17,
+    length_for(9) - 1,
+    length_for(20),
+    length_for(60) + 1,
+    length_for(150),
+    length_for(400),
 ];
 
 /// What the life cycles have met.
@@ -142,11 +143,7 @@ impl Met {
 
 /// A tape buffer with old bytes, seldom too short.
 fn tape_before(random: &mut Random) -> Vec<u8> {
-    let length = if random.once_in(15) {
-        random.below(LINE_SIZE)
-    } else {
-        random.between(LINE_SIZE, 200)
-    };
+    let length = values::any_tape_length(random);
     random.bytes(length)
 }
 
@@ -177,7 +174,7 @@ fn life_cycles_on_ledgers_of_several_sizes() {
 fn a_ledger_of_400_rows_fills_up() {
     let mut random = Random::for_test(20_240_302);
     let mut met = Met::default();
-    let mut ledger = Ledger::open(&mut random, layout::length_for(400), 430);
+    let mut ledger = Ledger::open(&mut random, length_for(400), 430);
     for _ in 0..6_000 {
         ledger.step(&mut random, &mut met);
     }
@@ -191,9 +188,9 @@ fn a_ledger_of_400_rows_fills_up() {
 fn a_ledger_longer_than_the_largest_capacity() {
     let mut random = Random::for_test(20_240_303);
     let mut met = Met::default();
-    let length = layout::length_for(LARGEST_CAPACITY) + 7 * 160 + 3;
+    let length = length_for(LARGEST_CAPACITY) + 7 * ROW_SIZE + 3;
     let mut ledger = Ledger::open(&mut random, length, 12);
-    assert_eq!(ledger.model.header.capacity, 100_000);
+    assert_eq!(ledger.model.header.capacity as usize, LARGEST_CAPACITY);
     for _ in 0..60 {
         ledger.step(&mut random, &mut met);
     }
@@ -206,7 +203,7 @@ fn a_ledger_longer_than_the_largest_capacity() {
 fn identifiers_run_out() {
     let mut random = Random::for_test(20_240_304);
     let mut met = Met::default();
-    let mut ledger = Ledger::open(&mut random, layout::length_for(30), 40);
+    let mut ledger = Ledger::open(&mut random, length_for(30), 40);
     ledger.model.header.next = HIGHEST_NEXT - 100;
     ledger.before[..layout::HEADER_SIZE].copy_from_slice(&ledger.model.header.encode());
     ledger.compared.set_ledger(&ledger.before);

@@ -2,8 +2,10 @@
 //! is derived by hand.
 
 use compare::compared::Compared;
-use compare::layout::{length_for, u32_at, u64_at, HIGHEST_NEXT, LINE_SIZE};
-use compare::layout::{NOTIONAL_IN_LINE, PLUS_IN_LINE};
+use compare::layout::{length_for, row_range, u32_at, u64_at, HIGHEST_NEXT, LINE_SIZE};
+use compare::layout::{ACTION_IN_LINE, NOTIONAL_IN_LINE, PLUS_IN_LINE, TERMS_IN_LINE};
+use compare::layout::{IDENTIFIER_IN_ROW, STATUS_IN_ROW, TERMS_IN_ROW};
+use compare::layout::{NEXT_IN_HEADER, ROWS_IN_HEADER};
 use compare::sound::{plain_new, plain_short};
 use sdr::{ERRORED, LIVE};
 
@@ -18,17 +20,21 @@ fn opened(cap: u64) -> Compared {
 
 /// Status, last identifier and terms of the first row.
 fn first_row(compared: &Compared) -> (u8, u64, &[u8]) {
-    let ledger = compared.ledger();
+    let row = &compared.ledger()[row_range(0)];
     (
-        ledger[64],
-        u64_at(ledger, 64 + 54),
-        &ledger[64 + 62..64 + 155],
+        row[STATUS_IN_ROW],
+        u64_at(row, IDENTIFIER_IN_ROW),
+        &row[TERMS_IN_ROW],
     )
 }
 
 /// Rows in use and next identifier.
 fn counts(compared: &Compared) -> (u32, u64) {
-    (u32_at(compared.ledger(), 0), u64_at(compared.ledger(), 8))
+    let ledger = compared.ledger();
+    (
+        u32_at(ledger, ROWS_IN_HEADER),
+        u64_at(ledger, NEXT_IN_HEADER),
+    )
 }
 
 #[test]
@@ -41,7 +47,7 @@ fn the_exact_amount_is_compared_with_the_cap() {
         2024-03-01T10:15:30Z2024-03-042029-03-04Y FFF                        IR\
         0000000250000000+USD  \n";
     assert_eq!(compared.tape(), line);
-    assert_eq!(first_row(&compared), (LIVE, 1, &line[52..145]));
+    assert_eq!(first_row(&compared), (LIVE, 1, &line[TERMS_IN_LINE]));
     assert_eq!(counts(&compared), (1, 2));
 
     // Equal to the cap shows no plus, though it is shown alike.
@@ -50,7 +56,7 @@ fn the_exact_amount_is_compared_with_the_cap() {
         .with(20, "250000000");
     assert_eq!(compared.submit(&message.encode()).identifier, 2);
     assert_eq!(compared.tape()[NOTIONAL_IN_LINE], *b"0000000250000000");
-    assert_eq!(compared.tape()[PLUS_IN_LINE], b' ');
+    assert_eq!(compared.tape()[PLUS_IN_LINE], *b" ");
 }
 
 #[test]
@@ -60,20 +66,20 @@ fn a_notional_of_25_digits_goes_in() {
     let message = plain_new().with(20, "18446744078709551616");
     assert_eq!(compared.submit(&message.encode()).verdict, 0);
     assert_eq!(compared.tape()[NOTIONAL_IN_LINE], *b"1000000000000000");
-    assert_eq!(compared.tape()[PLUS_IN_LINE], b'+');
+    assert_eq!(compared.tape()[PLUS_IN_LINE], *b"+");
 
     // Counted in the fifth decimal place, 10^15 is beyond 64 bits.
     let message = message.with(1, "1000000000SWAP0000000002");
     let message = message.with(20, "00000999974999999999.99999");
     assert_eq!(compared.submit(&message.encode()).verdict, 0);
     assert_eq!(compared.tape()[NOTIONAL_IN_LINE], *b"0999950000000000");
-    assert_eq!(compared.tape()[PLUS_IN_LINE], b' ');
+    assert_eq!(compared.tape()[PLUS_IN_LINE], *b" ");
 
     let message = message.with(1, "1000000000SWAP0000000003");
     let message = message.with(20, "9999999999999999999999999");
     assert_eq!(compared.submit(&message.encode()).verdict, 0);
     assert_eq!(compared.tape()[NOTIONAL_IN_LINE], *b"1000000000000000");
-    assert_eq!(compared.tape()[PLUS_IN_LINE], b'+');
+    assert_eq!(compared.tape()[PLUS_IN_LINE], *b"+");
 }
 
 #[test]
@@ -96,7 +102,10 @@ fn only_revi_brings_back_an_errored_swap() {
 
     let revive = new.with(2, "REVI").without(3);
     assert_eq!(compared.submit(&revive.encode()).identifier, 3);
-    assert_eq!(compared.tape()[..28], *b"000000000003000000000002REVI");
+    assert_eq!(
+        compared.tape()[..ACTION_IN_LINE.end],
+        *b"000000000003000000000002REVI"
+    );
     let (status, identifier, _) = first_row(&compared);
     assert_eq!((status, identifier), (LIVE, 3));
     assert_eq!(counts(&compared), (1, 4));
@@ -120,7 +129,7 @@ fn spent_identifiers_are_found_before_the_row_is_written() {
     let mut compared = opened(250_000_000);
     assert_eq!(compared.submit(&plain_new().encode()).identifier, 1);
     let mut ledger = compared.ledger().to_vec();
-    ledger[8..16].copy_from_slice(&HIGHEST_NEXT.to_le_bytes());
+    ledger[NEXT_IN_HEADER].copy_from_slice(&HIGHEST_NEXT.to_le_bytes());
     compared.set_ledger(&ledger);
     compared.set_tape(&[b'x'; LINE_SIZE]);
 
@@ -141,7 +150,7 @@ fn spent_identifiers_are_found_before_the_row_is_written() {
     // PRTO writes no line and is still accepted: only the status changes.
     let answer = compared.submit(&plain_short("PRTO", Some("PTNG")).encode());
     assert_eq!((answer.verdict, answer.identifier), (0, 0));
-    ledger[64] = sdr::PORTED;
+    ledger[row_range(0)][STATUS_IN_ROW] = sdr::PORTED;
     assert_eq!(compared.ledger(), ledger);
     assert_eq!(compared.tape(), [b'x'; LINE_SIZE]);
 }

@@ -2,7 +2,7 @@
 
 use compare::compared::Compared;
 use compare::faults::{self, Case};
-use compare::layout::{length_for, LINE_SIZE};
+use compare::layout::{length_for, LINE_SIZE, SHORTEST_LEDGER};
 use compare::matrix::ACTIONS;
 use compare::random::Random;
 use compare::sound::plain_new;
@@ -45,13 +45,13 @@ fn a_refused_opening_changes_nothing() {
     let mut compared = Compared::new();
     for (length, caps) in [
         (0, CAPS),
-        (223, CAPS),
-        (224, [999; 5]),
+        (SHORTEST_LEDGER - 1, CAPS),
+        (SHORTEST_LEDGER, [999; 5]),
         (length_for(9), [0; 5]),
     ] {
         let ledger = random.bytes(length);
         compared.set_ledger(&ledger);
-        let verdict = if length < 224 { 1 } else { 2 };
+        let verdict = if length < SHORTEST_LEDGER { 1 } else { 2 };
         assert_eq!(compared.open(&caps), refused(verdict, 0));
         assert_eq!(compared.ledger(), ledger);
     }

@@ -1,0 +1,74 @@
+//! The order of checking: for each operation the verdict numbers of its rules,
+//! the rule that is judged first in front.
+
+/// The rules of opening.
+pub const OPENING: [u8; 2] = [1, 2];
+
+/// The rules of a submission.
+pub const SUBMITTING: [u8; 16] = [3, 4, 5, 6, 7, 8, 9, 10, 11, 12, 13, 14, 15, 16, 17, 18];
+
+/// The rules of a status question.
+pub const ASKING: [u8; 3] = [3, 9, 14];
+
+/// The place of a submission's rule in the order.
+pub fn place(verdict: u8) -> usize {
+    let place = SUBMITTING.iter().position(|&rule| rule == verdict);
+    place.unwrap_or_else(|| panic!("no submission is refused with {verdict}"))
+}
+
+/// The rules of a submission from one up to another.
+pub fn from_to(first: u8, last: u8) -> &'static [u8] {
+    &SUBMITTING[place(first)..=place(last)]
+}
+
+/// The highest verdict number.
+pub const HIGHEST_VERDICT: u8 = highest(&SUBMITTING, highest(&OPENING, 0));
+
+const fn highest(rules: &[u8], so_far: u8) -> u8 {
+    match rules {
+        [] => so_far,
+        [rule, rest @ ..] if *rule > so_far => highest(rest, *rule),
+        [_, rest @ ..] => highest(rest, so_far),
+    }
+}
+
+#[cfg(test)]
+mod tests {
+    use super::{from_to, place, ASKING, HIGHEST_VERDICT, OPENING, SUBMITTING};
+    use std::path::Path;
+
+    /// The numbers that include/sdr.h lists for an operation.
+    fn listed(operation: &str) -> Vec<u8> {
+        let package = Path::new(env!("CARGO_MANIFEST_DIR"));
+        let header = std::fs::read_to_string(package.join("../../include/sdr.h"));
+        let header = header.expect("include/sdr.h can be read");
+        let start = format!(" *   {operation} ");
+        let numbers = |line: &str| {
+            line.split(", ")
+                .map(|text| text.trim().parse().ok())
+                .collect()
+        };
+        let lists = header.lines().filter_map(|line| line.strip_prefix(&start));
+        let mut lists: Vec<Vec<u8>> = lists.filter_map(numbers).collect();
+        assert_eq!(lists.len(), 1, "{operation} has one list of rules");
+        lists.remove(0)
+    }
+
+    #[test]
+    fn the_header_lists_the_same_order() {
+        assert_eq!(listed("sdr_open"), OPENING);
+        assert_eq!(listed("sdr_submit"), SUBMITTING);
+        assert_eq!(listed("sdr_status"), ASKING);
+    }
+
+    #[test]
+    fn every_rule_stands_once() {
+        for (at, &verdict) in SUBMITTING.iter().enumerate() {
+            assert_eq!(place(verdict), at, "{verdict}");
+            assert!(verdict <= HIGHEST_VERDICT && !OPENING.contains(&verdict));
+        }
+        assert_eq!(from_to(SUBMITTING[0], SUBMITTING[15]), SUBMITTING);
+        assert_eq!(from_to(9, 11), [9, 10, 11]);
+        assert_eq!(HIGHEST_VERDICT, sdr::IDENTIFIERS_SPENT);
+    }
+}
