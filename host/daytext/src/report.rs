@@ -83,9 +83,15 @@ impl Answer {
     /// Takes verdict, element and identifier if there are such.
     fn new([verdict, element, identifier]: [u64; 3]) -> Result<Answer, String> {
         if names::verdict(verdict).is_none() {
-            Err("the verdict is not one of 0 to 18".to_string())
+            Err(format!(
+                "the verdict is not one of 0 to {}",
+                names::VERDICTS.len() - 1
+            ))
         } else if element != 0 && names::element(element).is_none() {
-            Err("the element is not one of 0 to 25".to_string())
+            Err(format!(
+                "the element is not one of 0 to {}",
+                names::ELEMENTS.len()
+            ))
         } else if identifier >= names::IDENTIFIER_LIMIT {
             Err("the identifier has more than 12 digits".to_string())
         } else {

@@ -1,14 +1,14 @@
 //! Empty buffers, as empty slices through the wrapper and as NULL with length
 //! 0 through the C interface itself.
 
-use super::{sdr_open, sdr_status, sdr_submit, Answer};
+use super::{sdr_open, sdr_status, sdr_submit, Answer, LINE_SIZE};
 use std::ptr::{null, null_mut};
 
 /// Caps of 250,000,000 for all five classes.
 const CAPS: [u64; 5] = [250_000_000; 5];
 
 fn opened() -> Vec<u8> {
-    let mut ledger = vec![0; 64 + 3 * 160];
+    let mut ledger = vec![0; super::ledger_size(3)];
     assert_eq!(super::open(&mut ledger, &CAPS).verdict, super::ACCEPTED);
     ledger
 }
@@ -25,7 +25,7 @@ fn only(verdict: u8) -> Answer {
 fn empty_slices_are_short_buffers() {
     let mut ledger = opened();
     let before = ledger.clone();
-    let mut tape = [7; 146];
+    let mut tape = [7; LINE_SIZE];
     assert_eq!(super::open(&mut [], &CAPS), only(super::LEDGER_SHORT));
     assert_eq!(super::open(&mut [], &[0; 5]), only(super::LEDGER_SHORT));
     assert_eq!(
@@ -43,7 +43,7 @@ fn empty_slices_are_short_buffers() {
     assert_eq!(super::status(&[], &[]), only(super::LEDGER_WRONG));
     assert_eq!(super::status(&ledger, &[]), element_1());
     assert_eq!(ledger, before);
-    assert_eq!(tape, [7; 146]);
+    assert_eq!(tape, [7; LINE_SIZE]);
 }
 
 fn element_1() -> Answer {
@@ -58,21 +58,21 @@ fn element_1() -> Answer {
 fn null_with_length_0_is_an_empty_buffer() {
     let mut ledger = opened();
     let before = ledger.clone();
-    let mut tape = [7; 146];
+    let mut tape = [7; LINE_SIZE];
     let (start, size) = (ledger.as_mut_ptr(), ledger.len());
     // SAFETY: each pointer is NULL with length 0 or that of a whole vector or
     // array that nothing else uses meanwhile.
     let answers = unsafe {
         [
             u64::from(sdr_open(null_mut(), 0, 1000, 1000, 1000, 1000, 1000)),
-            sdr_submit(null_mut(), 0, tape.as_mut_ptr(), 146, null(), 0),
+            sdr_submit(null_mut(), 0, tape.as_mut_ptr(), LINE_SIZE, null(), 0),
             sdr_submit(start, size, null_mut(), 0, null(), 0),
-            sdr_submit(start, size, tape.as_mut_ptr(), 146, null(), 0),
+            sdr_submit(start, size, tape.as_mut_ptr(), LINE_SIZE, null(), 0),
             sdr_status(null(), 0, null(), 0),
             sdr_status(start, size, null(), 0),
         ]
     };
     assert_eq!(answers, [1, 3, 4, 5, 3, 9 | 1 << 8]);
     assert_eq!(ledger, before);
-    assert_eq!(tape, [7; 146]);
+    assert_eq!(tape, [7; LINE_SIZE]);
 }
