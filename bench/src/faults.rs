@@ -1,19 +1,19 @@
 //! Messages with one fault, which the rules 5 to 13 refuse.
 
 use crate::messages::set_package;
-use compare::message::Message;
+use compare::message::{Message, COUNT_SIZE, ENTRY_SIZE, HIGHEST_CODE};
 use compare::random::Random;
 
 /// Where the first entry's offset and the second entry's code stand.
-const FIRST_OFFSET: usize = 4;
-const SECOND_CODE: usize = 6;
+const FIRST_OFFSET: usize = COUNT_SIZE + 2;
+const SECOND_CODE: usize = COUNT_SIZE + ENTRY_SIZE;
 
 /// Verdict 5: one of four wrong layouts, by number. The first two show in the
 /// first bytes, the others only when the entries have been read.
 pub fn wrong_layout(number: usize, message: &Message) -> Vec<u8> {
     let mut bytes = message.encode();
     match number % 4 {
-        0 => bytes[0] = 26,
+        0 => bytes[0] = HIGHEST_CODE + 1,
         1 => bytes[FIRST_OFFSET] += 1,
         2 => bytes[SECOND_CODE] = 1,
         _ => {

@@ -2,24 +2,17 @@
 
 use crate::messages::sound_new;
 use crate::utis::Shape;
+use compare::layout::{row_range, u32_at, EXECUTION_IN_TERMS, TERMS_IN_ROW};
+use compare::layout::{CAPACITY_IN_HEADER, NEXT_IN_HEADER, ROWS_IN_HEADER};
+use compare::layout::{IDENTIFIER_IN_ROW, LENGTH_IN_ROW, STATUS_IN_ROW, UTI_IN_ROW};
 use compare::random::Random;
-use sdr::{
-    ledger_size, ACCEPTED, CLOSED, ERRORED, HEADER_SIZE, LARGEST_CAPACITY, LINE_SIZE, LIVE, PORTED,
-    ROW_SIZE,
-};
+use sdr::{ledger_size, ACCEPTED, CLOSED, ERRORED, LIVE, PORTED};
+use sdr::{HEADER_SIZE, LARGEST_CAPACITY, LINE_SIZE};
 
 /// All five caps.
 pub const CAPS: [u64; 5] = [250_000_000; 5];
 /// So many different terms are dealt out over the rows.
 const PATTERNS: usize = 64;
-
-/// Where a row keeps its UTI and its identifier.
-const UTI_SIZE: usize = 52;
-const UTI_AT: usize = 2;
-const IDENTIFIER_AT: usize = 54;
-/// The execution time opens the masked terms.
-const EXECUTION_AT: usize = 62;
-const TIME_SIZE: usize = 20;
 
 /// A ledger's bytes.
 pub struct Ledger {
@@ -43,39 +36,39 @@ impl Ledger {
             let row = row_mut(&mut ledger.bytes, place);
             row.copy_from_slice(&patterns[place % PATTERNS]);
             name_row(row, &shape.uti(place), place as u64 + 1);
-            row[0] = status_at(place, rows);
+            row[STATUS_IN_ROW] = status_at(place, rows);
         }
-        ledger.bytes[0..4].copy_from_slice(&(rows as u32).to_le_bytes());
-        ledger.bytes[8..16].copy_from_slice(&(rows as u64 + 1).to_le_bytes());
+        ledger.bytes[ROWS_IN_HEADER].copy_from_slice(&(rows as u32).to_le_bytes());
+        ledger.bytes[NEXT_IN_HEADER].copy_from_slice(&(rows as u64 + 1).to_le_bytes());
         ledger
     }
 
     /// The rows in use.
     pub fn rows(&self) -> usize {
-        number(&self.bytes, 0)
+        u32_at(&self.bytes, ROWS_IN_HEADER) as usize
     }
 
     /// The rows that there is room for.
     pub fn capacity(&self) -> usize {
-        number(&self.bytes, 60)
+        u32_at(&self.bytes, CAPACITY_IN_HEADER) as usize
     }
 
     /// A row's bytes.
     pub fn row(&self, place: usize) -> &[u8] {
-        &self.bytes[ledger_size(place)..][..ROW_SIZE]
+        &self.bytes[row_range(place)]
     }
 
     pub fn status(&self, place: usize) -> u8 {
-        self.row(place)[0]
+        self.row(place)[STATUS_IN_ROW]
     }
 
     pub fn uti(&self, place: usize) -> String {
         let row = self.row(place);
-        text(&row[UTI_AT..][..row[1].into()])
+        text(&row[UTI_IN_ROW][..row[LENGTH_IN_ROW].into()])
     }
 
     pub fn execution_time(&self, place: usize) -> String {
-        text(&self.row(place)[EXECUTION_AT..][..TIME_SIZE])
+        text(&self.row(place)[TERMS_IN_ROW][EXECUTION_IN_TERMS])
     }
 }
 
@@ -107,14 +100,14 @@ fn pattern(random: &mut Random, number: usize) -> Vec<u8> {
 }
 
 fn name_row(row: &mut [u8], uti: &str, identifier: u64) {
-    row[1] = uti.len() as u8;
-    row[UTI_AT..][..UTI_SIZE].fill(b' ');
-    row[UTI_AT..][..uti.len()].copy_from_slice(uti.as_bytes());
-    row[IDENTIFIER_AT..][..8].copy_from_slice(&identifier.to_le_bytes());
+    row[LENGTH_IN_ROW] = uti.len() as u8;
+    row[UTI_IN_ROW].fill(b' ');
+    row[UTI_IN_ROW][..uti.len()].copy_from_slice(uti.as_bytes());
+    row[IDENTIFIER_IN_ROW].copy_from_slice(&identifier.to_le_bytes());
 }
 
 fn row_mut(bytes: &mut [u8], place: usize) -> &mut [u8] {
-    &mut bytes[ledger_size(place)..][..ROW_SIZE]
+    &mut bytes[row_range(place)]
 }
 
 /// Puts the header of a saved copy back.
@@ -124,16 +117,7 @@ pub fn put_header_back(ledger: &mut [u8], saved: &[u8]) {
 
 /// Puts one row of a saved copy back.
 pub fn put_row_back(ledger: &mut [u8], saved: &[u8], place: usize) {
-    let start = ledger_size(place);
-    row_mut(ledger, place).copy_from_slice(&saved[start..start + ROW_SIZE]);
-}
-
-/// A u32 of the header.
-fn number(bytes: &[u8], at: usize) -> usize {
-    bytes[at..at + 4]
-        .iter()
-        .rev()
-        .fold(0, |number, &byte| 256 * number + usize::from(byte))
+    row_mut(ledger, place).copy_from_slice(&saved[row_range(place)]);
 }
 
 fn text(bytes: &[u8]) -> String {

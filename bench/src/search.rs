@@ -5,6 +5,8 @@ use crate::table;
 use crate::timing::{measure, Figures, Run};
 use crate::utis::Shape;
 use compare::judge::{Checker, Core, Judge};
+use compare::layout::{u32_at, u64_at, IDENTIFIER_IN_ROW, LENGTH_IN_ROW, ROWS_IN_HEADER};
+use compare::layout::{STATUS_IN_ROW, UTI_IN_ROW};
 use sdr::{Answer, HEADER_SIZE, LARGEST_CAPACITY, ROW_SIZE};
 use std::ffi::{c_int, c_void};
 use std::hint::black_box;
@@ -135,29 +137,23 @@ impl Search {
 /// The scan: from the first used row to the one that has this UTI. It judges
 /// neither the header nor the UTI nor the row.
 fn scan(ledger: &[u8], uti: &[u8]) -> Answer {
-    let rows = u32::from_le_bytes([ledger[0], ledger[1], ledger[2], ledger[3]]);
+    let rows = u32_at(ledger, ROWS_IN_HEADER);
     let used = &ledger[HEADER_SIZE..][..rows as usize * ROW_SIZE];
     let mut found = used.chunks_exact(ROW_SIZE).filter(|row| is_of(row, uti));
     found.next().map_or(Answer::default(), |row| Answer {
-        status: row[0],
-        identifier: identifier(row),
+        status: row[STATUS_IN_ROW],
+        identifier: u64_at(row, IDENTIFIER_IN_ROW),
         ..Answer::default()
     })
 }
 
 fn is_of(row: &[u8], uti: &[u8]) -> bool {
-    let stored = &row[2..54];
-    if usize::from(row[1]) != uti.len() || uti.len() > stored.len() {
+    let stored = &row[UTI_IN_ROW];
+    if usize::from(row[LENGTH_IN_ROW]) != uti.len() || uti.len() > stored.len() {
         return false;
     }
     // SAFETY: both have at least as many bytes as the UTI is long.
     unsafe { memcmp(stored.as_ptr().cast(), uti.as_ptr().cast(), uti.len()) == 0 }
-}
-
-fn identifier(row: &[u8]) -> u64 {
-    let mut number = [0; 8];
-    number.copy_from_slice(&row[54..62]);
-    u64::from_le_bytes(number)
 }
 
 /// Compares these searches and prints what was compared.
