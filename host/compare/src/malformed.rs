@@ -1,5 +1,6 @@
 //! Values that break the form of their element.
 
+use crate::layout::UTI_SIZE;
 use crate::values::{remainder, CAPITALS};
 
 /// Values that break the form of an element, at least two for each code.
@@ -52,7 +53,7 @@ fn utis() -> Vec<Vec<u8>> {
         }
     }
     let mut padded = sound.to_vec();
-    padded.resize(52, b' ');
+    padded.resize(UTI_SIZE, b' ');
     values.push(padded);
     values
 }

@@ -44,7 +44,7 @@ const LANDMARKS: [u64; 24] = [
 ];
 
 /// The most bytes behind the line in a tape buffer.
-const SPARE: usize = 54;
+const SPARE: usize = 50;
 /// The shortest UTI.
 const SHORTEST_UTI: usize = 21;
 

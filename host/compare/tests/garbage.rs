@@ -17,7 +17,7 @@ fn noise_in_all_buffers() {
     for _ in 0..submissions(25_000) {
         compared.set_ledger(&noise_ledger(&mut random));
         compared.set_tape(&noise(&mut random, 300));
-        compared.submit(&noise(&mut random, LONGEST_MESSAGE + 52));
+        compared.submit(&noise(&mut random, LONGEST_MESSAGE + 50));
         compared.status(&noise(&mut random, 60));
     }
     println!("noise: {}", compared.tally);
@@ -109,7 +109,7 @@ fn every_prefix_of_a_sound_message() {
 fn extended_messages() {
     let mut random = Random::for_test(505);
     let bytes = plain_new().encode();
-    for more in 1..=LONGEST_MESSAGE + 52 {
+    for more in 1..=LONGEST_MESSAGE + 50 {
         let mut compared = opened(&mut random);
         let mut longer = bytes.clone();
         longer.extend(random.bytes(more));

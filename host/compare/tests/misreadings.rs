@@ -3,8 +3,8 @@
 
 use compare::compared::Compared;
 use compare::layout::{length_for, row_range, u32_at, u64_at, HIGHEST_NEXT, LINE_SIZE};
-use compare::layout::{ACTION_IN_LINE, NOTIONAL_IN_LINE, PLUS_IN_LINE, TERMS_IN_LINE};
-use compare::layout::{IDENTIFIER_IN_ROW, STATUS_IN_ROW, TERMS_IN_ROW};
+use compare::layout::{ACTION_IN_LINE, NEWLINE_IN_LINE, NOTIONAL_IN_LINE, PLUS_IN_LINE};
+use compare::layout::{IDENTIFIER_IN_ROW, STATUS_IN_ROW, TERMS_IN_LINE, TERMS_IN_ROW};
 use compare::layout::{NEXT_IN_HEADER, ROWS_IN_HEADER};
 use compare::sound::{plain_new, plain_short};
 use sdr::{ERRORED, LIVE};
@@ -43,9 +43,12 @@ fn the_exact_amount_is_compared_with_the_cap() {
     let message = plain_new().with(20, "250400000");
     let answer = compared.submit(&message.encode());
     assert_eq!((answer.verdict, answer.identifier), (0, 1));
-    let line: &[u8; LINE_SIZE] = b"000000000001            NEWTTRAD2024-03-01T10:15:30Z\
+    let mut line = b"000000000001            NEWTTRAD2024-03-01T10:15:30Z\
         2024-03-01T10:15:30Z2024-03-042029-03-04Y FFF                        IR\
-        0000000250000000+USD  \n";
+        0000000250000000+USD"
+        .to_vec();
+    line.resize(NEWLINE_IN_LINE.start, b' ');
+    line.push(b'\n');
     assert_eq!(compared.tape(), line);
     assert_eq!(first_row(&compared), (LIVE, 1, &line[TERMS_IN_LINE]));
     assert_eq!(counts(&compared), (1, 2));
