@@ -41,7 +41,7 @@ module _ (caps : Caps) (capacity : ℕ) (l : Bytes) (room : headerSize ≤ lengt
   -- each field stands at document 01's offset, and later bytes stay
   pub opened-placed : Placed rowsAt (headerFields caps capacity) (splice l rowsAt (newHeader caps capacity))
   unfolding newHeader
-  opened-placed = front-placed (headerFields caps capacity) headerSize l refl room
+  opened-placed = front-placed (headerFields caps capacity) headerSize l refl
 
   pub opened-later : drop headerSize (splice l rowsAt (newHeader caps capacity)) ≡ drop headerSize l
   unfolding newHeader

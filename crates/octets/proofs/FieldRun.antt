@@ -97,9 +97,9 @@ number-read n v e h = ap fromLe (e ∙ field-exact n (toLe n v) (length-toLe n v
 
 module _ (fs : List FieldText) (end : ℕ) (d : Bytes) (ok : sizeOf fs ≡ end) where
   -- each field stands at its offset
-  pub front-placed : end ≤ length d → Placed 0 fs (splice d 0 (bytesOf fs))
+  pub front-placed : Placed 0 fs (splice d 0 (bytesOf fs))
   unfolding splice
-  front-placed h = placed-from 0 fs (splice d 0 (bytesOf fs)) (drop (0 + length (bytesOf fs)) d) refl
+  front-placed = placed-from 0 fs (splice d 0 (bytesOf fs)) (drop (0 + length (bytesOf fs)) d) refl
 
   -- later bytes stay
   pub front-later : drop end (splice d 0 (bytesOf fs)) ≡ drop end d

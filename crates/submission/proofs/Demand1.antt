@@ -2,7 +2,7 @@
 use Prim.Native.Nat.{ℕ, zero, suc}
 use mathlib.Core.Bool.{Bool, true, false, not}
 use mathlib.Core.Path.{_≡_, refl, sym, ap, _∙_}
-use mathlib.Core.List.{[], _∷_}
+use mathlib.Core.List.{List, [], _∷_}
 use native.Mathlib.Omega.{arith}
 use lib.ListN.{length}
 use lib.Dec.{eqb, ltb, lit<}
@@ -20,7 +20,7 @@ use Rattle.elements.specs.Forms.{hasForm}
 use Rattle.rules.specs.declared.checks.Check.{Check}
 use Rattle.rules.specs.declared.checks.Check.the-variants.{Needed, Taken, Formed, Due}
 use Rattle.rules.specs.Verdicts.{noAction, formBroken}
-use Rattle.rules.specs.Findings.{passed, broken, lowest, test, naming, firstBroken, findingOf, isOneOf}
+use Rattle.rules.specs.Findings.{passed, broken, lowest, Rule, test, naming, firstBroken, findingOf, isOneOf}
 use Rattle.rules.specs.Rules.{finding, atFault, rulesFor, rulesOf, numberOf}
 use Rattle.rules.proofs.FindingLaws.{unused, not-verdict, numbered, has-number, namedBy, names-none, broken-first, lowest-broken}
 use Rattle.rules.proofs.VerdictLaws.{namingNumbers, action-at-fault}
@@ -30,74 +30,84 @@ use Rattle.ledger.specs.Rows.{swapIn}
 use Rattle.submission.specs.Verdicts.{ledgerShort, capWrong, ledgerWrong, rowWrong, openingNumbers, submissionNumbers}
 use Rattle.submission.specs.Opening.{Limits, openingRules, openingVerdict, opened}
 use Rattle.submission.specs.Lent.{Lent}
-use Rattle.submission.specs.Submission.{actionIn, hasWrongRow, swapRules, submissionRules, rulesOn, verdictOn, submitted}
+use Rattle.submission.specs.Submission.{actionIn, hasWrongRow, swapRules, submissionRules, rulesOn, verdictOn, Submitted, submitted}
 use Rattle.submission.specs.Status.{statusRules, answered, asked}
 use Rattle.submission.specs.Demand1.{NamesLowest, Names, Refusal, Submission-answers, Opening-answers, Question, Question-answers}
 use Rattle.submission.proofs.Acceptance.{numbers-differ}
 use Rattle.submission.proofs.Turn.{refuses, accepts, verdict-is}
 
 module _ (limits : Limits) (lent : Lent) (m : Bytes) where
+  -- the first rule broken, and what the submission answers
+  abbrev found : ℕ × ℕ
+  found = verdictOn limits lent m
+
+  abbrev answer : Submitted
+  answer = submitted limits lent m
+
+  abbrev rules : Checked → List Rule
+  rules r = submissionRules limits r lent m
+
   -- each rule's number is one of a submission's, and only 6, 7, 8, 9 and 11 name an element
-  all-numbered : (r : Checked) → numbered submissionNumbers (submissionRules limits r lent m) ≡ true
+  all-numbered : (r : Checked) → numbered submissionNumbers (rules r) ≡ true
   unfolding submissionRules rulesFor rulesOf swapRules numbered isOneOf
   all-numbered (Fault code) = refl
   all-numbered (Value a) = refl
 
-  all-named : (r : Checked) → namedBy namingNumbers (submissionRules limits r lent m) ≡ true
+  all-named : (r : Checked) → namedBy namingNumbers (rules r) ≡ true
   unfolding submissionRules rulesFor rulesOf swapRules namedBy isOneOf
   all-named (Fault code) = refl
   all-named (Value a) = refl
 
-  some-number : (verdictOn limits lent m .0 ≡ 0 → ⊥) → isOneOf submissionNumbers (verdictOn limits lent m .0) ≡ true
+  some-number : (found .0 ≡ 0 → ⊥) → isOneOf submissionNumbers (found .0) ≡ true
   unfolding verdictOn
   some-number some = has-number submissionNumbers (rulesOn limits lent m) (all-numbered (actionIn m)) some
 
-  no-element : isOneOf namingNumbers (verdictOn limits lent m .0) ≡ false → verdictOn limits lent m .1 ≡ 0
+  no-element : isOneOf namingNumbers (found .0) ≡ false → found .1 ≡ 0
   unfolding verdictOn
   no-element other = names-none namingNumbers (rulesOn limits lent m) (all-named (actionIn m)) other
 
   -- ---- the element at fault
 
-  -- without an action nothing from 7 on is judged
-  not-judged : (code : ℕ) (c : Check) → firstBroken (submissionRules limits (Fault code) lent m) .0 ≡ numberOf c → ⊥
+  -- without an action nothing from 7 on is rules
+  not-judged : (code : ℕ) (c : Check) → firstBroken (rules (Fault code)) .0 ≡ numberOf c → ⊥
   unfolding submissionRules rulesFor unused
-  not-judged code Needed e = not-verdict _ (submissionRules limits (Fault code) lent m) (lit< tt) refl e
-  not-judged code Taken e = not-verdict _ (submissionRules limits (Fault code) lent m) (lit< tt) refl e
-  not-judged code Formed e = not-verdict _ (submissionRules limits (Fault code) lent m) (lit< tt) refl e
-  not-judged code Due e = not-verdict _ (submissionRules limits (Fault code) lent m) (lit< tt) refl e
+  not-judged code Needed e = not-verdict _ (rules (Fault code)) (lit< tt) refl e
+  not-judged code Taken e = not-verdict _ (rules (Fault code)) (lit< tt) refl e
+  not-judged code Formed e = not-verdict _ (rules (Fault code)) (lit< tt) refl e
+  not-judged code Due e = not-verdict _ (rules (Fault code)) (lit< tt) refl e
 
-  check-broken : (a : Action) (c : Check) (e : ℕ) → firstBroken (submissionRules limits (Value a) lent m) ≡ (numberOf c, e) → lowest (atFault c a m) ≡ broken e
+  check-broken : (a : Action) (c : Check) (e : ℕ) → firstBroken (rules (Value a)) ≡ (numberOf c, e) → lowest (atFault c a m) ≡ broken e
   unfolding submissionRules rulesFor rulesOf swapRules findingOf
-  check-broken a Needed e v = broken-first (submissionRules limits (Value a) lent m) (numberOf Needed) e (numbers-differ limits lent m (Value a)) (lit< tt) v .0
-  check-broken a Taken e v = broken-first (submissionRules limits (Value a) lent m) (numberOf Taken) e (numbers-differ limits lent m (Value a)) (lit< tt) v .0
-  check-broken a Formed e v = broken-first (submissionRules limits (Value a) lent m) (numberOf Formed) e (numbers-differ limits lent m (Value a)) (lit< tt) v .0
-  check-broken a Due e v = broken-first (submissionRules limits (Value a) lent m) (numberOf Due) e (numbers-differ limits lent m (Value a)) (lit< tt) v .0
+  check-broken a Needed e v = broken-first (rules (Value a)) (numberOf Needed) e (numbers-differ limits lent m (Value a)) (lit< tt) v .0
+  check-broken a Taken e v = broken-first (rules (Value a)) (numberOf Taken) e (numbers-differ limits lent m (Value a)) (lit< tt) v .0
+  check-broken a Formed e v = broken-first (rules (Value a)) (numberOf Formed) e (numbers-differ limits lent m (Value a)) (lit< tt) v .0
+  check-broken a Due e v = broken-first (rules (Value a)) (numberOf Due) e (numbers-differ limits lent m (Value a)) (lit< tt) v .0
 
-  names-lowest : (r : Checked) → actionIn m ≡ r → (c : Check) → verdictOn limits lent m .0 ≡ numberOf c → NamesLowest c m (verdictOn limits lent m .1)
+  names-lowest : (r : Checked) → actionIn m ≡ r → (c : Check) → found .0 ≡ numberOf c → NamesLowest c m (found .1)
   unfolding verdictOn
-  names-lowest (Fault code) e c v = absurd (not-judged code c (ap (λ r. firstBroken (submissionRules limits r lent m) .0) (sym e) ∙ v))
+  names-lowest (Fault code) e c v = absurd (not-judged code c (ap (λ r. firstBroken (rules r) .0) (sym e) ∙ v))
   names-lowest (Value a) e c v =
-      let is : firstBroken (submissionRules limits (Value a) lent m) ≡ (numberOf c, verdictOn limits lent m .1) = ap (λ r. firstBroken (submissionRules limits r lent m)) (sym e) ∙ ap (λ n. (n, verdictOn limits lent m .1)) v in
-      record { action = a; reads = e; lowest = lowest-broken (atFault c a m) (verdictOn limits lent m .1) (check-broken a c (verdictOn limits lent m .1) is) }
+      let is : firstBroken (rules (Value a)) ≡ (numberOf c, found .1) = ap (λ r. firstBroken (rules r)) (sym e) ∙ ap (λ n. (n, found .1)) v in
+      record { action = a; reads = e; lowest = lowest-broken (atFault c a m) (found .1) (check-broken a c (found .1) is) }
 
-  action-broken : (r : Checked) (e : ℕ) → firstBroken (submissionRules limits r lent m) ≡ (noAction, e) → finding r ≡ broken e
+  action-broken : (r : Checked) (e : ℕ) → firstBroken (rules r) ≡ (noAction, e) → finding r ≡ broken e
   unfolding submissionRules rulesFor rulesOf swapRules findingOf
-  action-broken (Fault code) e v = broken-first (submissionRules limits (Fault code) lent m) noAction e (numbers-differ limits lent m (Fault code)) (lit< tt) v .0
-  action-broken (Value a) e v = broken-first (submissionRules limits (Value a) lent m) noAction e (numbers-differ limits lent m (Value a)) (lit< tt) v .0
+  action-broken (Fault code) e v = broken-first (rules (Fault code)) noAction e (numbers-differ limits lent m (Fault code)) (lit< tt) v .0
+  action-broken (Value a) e v = broken-first (rules (Value a)) noAction e (numbers-differ limits lent m (Value a)) (lit< tt) v .0
 
-  names-action : verdictOn limits lent m .0 ≡ noAction → verdictOn limits lent m .1 ≡ actionCode
+  names-action : found .0 ≡ noAction → found .1 ≡ actionCode
   unfolding verdictOn
-  names-action v = action-at-fault (value actionCode m) (verdictOn limits lent m .1) (action-broken (actionIn m) (verdictOn limits lent m .1) (ap (λ n. (n, verdictOn limits lent m .1)) v))
+  names-action v = action-at-fault (value actionCode m) (found .1) (action-broken (actionIn m) (found .1) (ap (λ n. (n, found .1)) v))
 
   -- ---- what the submission answers
 
-  same-element : (n : ℕ) → submitted limits lent m .verdict ≡ n → submitted limits lent m .element ≡ verdictOn limits lent m .1
+  same-element : (n : ℕ) → answer .verdict ≡ n → answer .element ≡ found .1
   unfolding isOneOf
   same-element zero v = ap (λ s. s .element) (accepts limits lent m v .answer) ∙ sym (no-element (ap (isOneOf namingNumbers) (sym (verdict-is limits lent m) ∙ v)))
   same-element (suc n) v = ap (λ s. s .element) (refuses limits lent m n v)
 
-  pub element-is : submitted limits lent m .element ≡ verdictOn limits lent m .1
-  element-is = same-element (submitted limits lent m .verdict) refl
+  pub element-is : answer .element ≡ found .1
+  element-is = same-element (answer .verdict) refl
 
   names-element : (v : ℕ) → (v ≡ noAction → ⊥) → ((check : Check) → v ≡ numberOf check → ⊥) → isOneOf namingNumbers v ≡ false
   unfolding isOneOf
@@ -106,19 +116,19 @@ module _ (limits : Limits) (lent : Lent) (m : Bytes) where
       other : (check : Check) → eqb (numberOf check) v ≡ false
       other check = ne-eqb (numberOf check) v (λ e. c check (sym e))
 
-  names : Names (submitted limits lent m) m
+  names : Names answer m
   names =
-      let v : submitted limits lent m .verdict ≡ verdictOn limits lent m .0 = verdict-is limits lent m in
+      let v : answer .verdict ≡ found .0 = verdict-is limits lent m in
       record {
         lowest = λ c e. rw element-is (names-lowest (actionIn m) refl c (sym v ∙ e));
         action = λ e. element-is ∙ names-action (sym v ∙ e);
         nothing = λ a b. element-is ∙ no-element (names-element _ (λ e. a (v ∙ e)) (λ c e. b c (v ∙ e)));
       }
 
-  refusal : (n : ℕ) → submitted limits lent m .verdict ≡ n → (submitted limits lent m .verdict ≡ 0 → ⊥) → Refusal (submitted limits lent m) lent
+  refusal : (n : ℕ) → answer .verdict ≡ n → (answer .verdict ≡ 0 → ⊥) → Refusal answer lent
   refusal zero v z = absurd (z v)
   refusal (suc n) v z =
-      let same : submitted limits lent m .verdict ≡ verdictOn limits lent m .0 = verdict-is limits lent m in
+      let same : answer .verdict ≡ found .0 = verdict-is limits lent m in
       record {
         number = rw same (some-number (λ e. z (same ∙ e)));
         identifier = ap (λ s. s .identifier) (refuses limits lent m n v);

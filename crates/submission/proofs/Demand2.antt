@@ -245,7 +245,7 @@ module _ (a : Action) (l t m : Bytes) (room : lineSize ≤ length t) where
 
   placed : Placed 0 (lineFields a (nextIdentifier l) previous m (termsFor a l m)) (splice t 0 (lineFor a l m))
   unfolding lineFor line
-  placed = front-placed _ lineSize t (line-in-place a (nextIdentifier l) previous m (termsFor a l m)) room
+  placed = front-placed _ lineSize t (line-in-place a (nextIdentifier l) previous m (termsFor a l m))
 
   later-bytes : drop lineSize (splice t 0 (lineFor a l m)) ≡ drop lineSize t
   unfolding lineFor line

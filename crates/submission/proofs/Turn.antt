@@ -23,40 +23,47 @@ use Rattle.submission.specs.Submission.{verdictOn, actionIn, lineFor, ta
 use Rattle.submission.proofs.Acceptance.{Accepting, accepting, Fits, tape-test, all-fit, is-accepted, is-refused}
 
 module _ (limits : Limits) (lent : Lent) (m : Bytes) where
+  -- the first rule broken, and what the submission answers
+  abbrev found : ℕ × ℕ
+  found = verdictOn limits lent m
+
+  abbrev answered : Submitted
+  answered = submitted limits lent m
+
   -- an acceptance: what it is, and what it tells of what was lent
   pub record Accepts : Type 0 where
     pub action : Action
     pub reads : actionIn m ≡ Value action
     pub fitting : Fits (limits .largest) (lent .ledger) m action
     pub tape : lineSize ≤ length (lent .buffers .tape)
-    pub answer : submitted limits lent m ≡ accepted action lent m
+    pub answer : answered ≡ accepted action lent m
 
-  same-verdict : (n : ℕ) → verdictOn limits lent m .0 ≡ n → submitted limits lent m .verdict ≡ verdictOn limits lent m .0
+  same-verdict : (n : ℕ) → found .0 ≡ n → answered .verdict ≡ found .0
   same-verdict zero e = ap (λ s. s .verdict) (is-accepted limits lent m (accepting limits lent m e) e) ∙ sym e
   same-verdict (suc n) e = ap (λ s. s .verdict) (is-refused limits lent m n e)
 
   -- the answer's verdict is that of the first rule broken
-  pub verdict-is : submitted limits lent m .verdict ≡ verdictOn limits lent m .0
-  verdict-is = same-verdict (verdictOn limits lent m .0) refl
+  pub verdict-is : answered .verdict ≡ found .0
+  verdict-is = same-verdict (found .0) refl
 
-  pub accepts-by : (c : Accepting limits lent m) → verdictOn limits lent m .0 ≡ 0 → Accepts
+  accepts-by : (c : Accepting limits lent m) → found .0 ≡ 0 → Accepts
   accepts-by c e = record { action = c .action; reads = c .reads; fitting = all-fit c; tape = ltb-false _ _ (tape-test c); answer = is-accepted limits lent m c e }
 
-  pub accepts : submitted limits lent m .verdict ≡ 0 → Accepts
+  pub accepts : answered .verdict ≡ 0 → Accepts
   accepts v =
-      let e : verdictOn limits lent m .0 ≡ 0 = sym verdict-is ∙ v in
+      let e : found .0 ≡ 0 = sym verdict-is ∙ v in
       accepts-by (accepting limits lent m e) e
 
-  pub refuses : (n : ℕ) → submitted limits lent m .verdict ≡ suc n → submitted limits lent m ≡ refused (verdictOn limits lent m) lent
+  pub refuses : (n : ℕ) → answered .verdict ≡ suc n → answered ≡ refused found lent
   refuses n v = is-refused limits lent m n (sym verdict-is ∙ v)
 
   -- what holds of an acceptance and of a refusal holds of the answer
-  pub by-turn : (P : Submitted → Type 0) → ((c : Accepts) → P (accepted (c .action) lent m)) → ((v : ℕ × ℕ) → eqb (v .0) 0 ≡ false → P (refused v lent)) → P (submitted limits lent m)
-  by-turn P takes leaves = by (submitted limits lent m .verdict) refl
+  pub by-turn : (P : Submitted → Type 0) → ((c : Accepts) → P (accepted (c .action) lent m)) → ((v : ℕ × ℕ) → eqb (v .0) 0 ≡ false → P (refused v lent)) → P answered
+  by-turn P takes leaves = by (answered .verdict) refl
     where
-      by : (n : ℕ) → submitted limits lent m .verdict ≡ n → P (submitted limits lent m)
+      by : (n : ℕ) → answered .verdict ≡ n → P answered
       by zero v = let c : Accepts = accepts v in rw (c .answer) (takes c)
-      by (suc n) v = rw (refuses n v) (leaves (verdictOn limits lent m) (ne-eqb (verdictOn limits lent m .0) 0 (λ e. omega (arith, e, v, verdict-is))))
+      by (suc n) v = rw (refuses n v) (leaves found (ne-eqb (found .0) 0 (λ e. omega (arith, e, v, verdict-is))))
 
 -- the line in the tape buffer
 pub accepted-line : (a : Action) (l t m : Bytes) → lineSize ≤ length t → choose (writesLine a) (take lineSize (tapeFor a l t m)) [] ≡ choose (writesLine a) (lineFor a l m) []
