@@ -2,13 +2,10 @@
 
 use crate::judge::{open, submit};
 use crate::rules::Answer;
+use crate::sizes::{self, line, DAY_ROWS, LONGEST_MESSAGE};
 
-/// "opens 400 rows"
-const ROWS: usize = 400;
 /// "with all caps at 250,000,000"
 const CAPS: [u64; 5] = [250_000_000; 5];
-/// "It passes over the bytes of one longer than 2,048".
-const LONGEST: usize = 2_048;
 /// "a line of the four words shown below"
 const HEADING: &[u8] = b"message verdict element record\n";
 
@@ -56,7 +53,7 @@ fn next(input: &[u8]) -> Next<'_> {
 /// A day under way.
 struct Day {
     ledger: Vec<u8>,
-    tape: [u8; 146],
+    tape: [u8; line::SIZE],
     judged: u64,
     published: u64,
     output: Vec<u8>,
@@ -64,12 +61,12 @@ struct Day {
 
 impl Day {
     fn open() -> Day {
-        let mut ledger = vec![0; 64 + 160 * ROWS];
+        let mut ledger = vec![0; sizes::ledger(DAY_ROWS)];
         let verdict = open(&mut ledger, &CAPS);
         assert_eq!(verdict, 0, "these rows and caps are admitted");
         Day {
             ledger,
-            tape: [0; 146],
+            tape: [0; line::SIZE],
             judged: 0,
             published: 0,
             output: HEADING.to_vec(),
@@ -95,8 +92,10 @@ impl Day {
         self.output.extend(line.as_bytes());
     }
 
+    /// "It passes over the bytes of one longer than" the longest message "and
+    /// reports 5".
     fn judge(&mut self, message: &[u8]) -> Answer {
-        if message.len() > LONGEST {
+        if message.len() > LONGEST_MESSAGE {
             return Answer {
                 verdict: 5,
                 ..Answer::default()

@@ -5,7 +5,7 @@ use crate::forms::{
     is_notation, is_package_identifier, is_price, is_time, is_truth, is_uti,
 };
 
-/// Codes run from 1 to 25.
+/// Codes run from 1 to this.
 pub const HIGHEST_CODE: u16 = 25;
 
 pub const UTI: u16 = 1;

@@ -1,8 +1,10 @@
 //! Section "Elements": the forms of the values. Text is ASCII.
 
+use crate::sizes::{DATE, UTI};
+
 /// Code 1: 21 to 52 capitals or digits.
 pub fn is_uti(v: &[u8]) -> bool {
-    (21..=52).contains(&v.len()) && v.iter().all(|&b| is_capital_or_digit(b))
+    (21..=UTI).contains(&v.len()) && v.iter().all(|&b| is_capital_or_digit(b))
 }
 
 /// Date: YYYY-MM-DD, a Gregorian date, years 1900 to 9999.
@@ -25,7 +27,7 @@ pub fn is_date(v: &[u8]) -> bool {
 /// Time: date, T, hh:mm:ss, Z, with seconds 00 to 59.
 /// Hours run from 00 to 23 and minutes from 00 to 59.
 pub fn is_time(v: &[u8]) -> bool {
-    let Some((date, time)) = v.split_at_checked(10) else {
+    let Some((date, time)) = v.split_at_checked(DATE) else {
         return false;
     };
     let &[b'T', h1, h2, b':', m1, m2, b':', s1, s2, b'Z'] = time else {

@@ -19,8 +19,10 @@ mod matrix;
 mod message;
 mod price;
 mod rules;
+pub mod sizes;
 
 pub use amounts::{is_cap, masked};
+pub use elements::HIGHEST_CODE;
 pub use forms::{is_amount, is_date, is_lei, is_price, is_time, is_uti};
 pub use judge::{open, status, submit};
 pub use matrix::is_pair;

@@ -1,4 +1,4 @@
-//! Section "The tape line, 146 bytes".
+//! Section "The tape line".
 
 use crate::amounts::masked_amount;
 use crate::elements::{
@@ -8,13 +8,7 @@ use crate::elements::{
 use crate::forms::{asset_class_place, is_true};
 use crate::message::Values;
 use crate::price::shown;
-
-/// Bytes of a tape line.
-pub const LINE: usize = 146;
-/// Offset of the masked terms in a line.
-const TERMS_START: usize = 52;
-/// Bytes of the masked terms: from 52 up to the newline at 145.
-pub const TERMS: usize = 93;
+use crate::sizes::{self, line, TERMS};
 
 /// "if Cleared is N": the condition of code 11.
 pub fn is_not_cleared(values: &Values) -> bool {
@@ -31,44 +25,46 @@ pub fn has_price_currency(values: &Values) -> bool {
     is_package(values) && values.get(NOTATION) == Some(b"1")
 }
 
-/// What a full message's elements and the caps put into a line from 52 up to
-/// the newline. The message has passed rules 5 to 12. Offsets are the line's.
+/// What a full message's elements and the caps put into a line from the
+/// execution time up to the newline. The message has passed rules 5 to 12.
+/// Offsets are the line's.
 /// "What is missing or left out is spaces."
 pub fn masked_terms(values: &Values, caps: &[u64; 5]) -> [u8; TERMS] {
     let mut terms = [b' '; TERMS];
     let mut put = |offset: usize, part: &[u8]| {
-        let at = offset - TERMS_START;
+        let at = offset - line::TERMS;
         terms[at..at + part.len()].copy_from_slice(part);
     };
-    put(52, values.present(EXECUTION_TIME));
-    put(72, values.present(EFFECTIVE));
-    put(82, values.present(EXPIRATION));
-    put(92, values.present(CLEARED));
+    put(line::EXECUTION_TIME, values.present(EXECUTION_TIME));
+    put(line::EFFECTIVE, values.present(EFFECTIVE));
+    put(line::EXPIRATION, values.present(EXPIRATION));
+    put(line::CLEARED, values.present(CLEARED));
     if is_not_cleared(values) {
-        put(93, truth(values.present(NON_STANDARDIZED)));
+        let shown = truth(values.present(NON_STANDARDIZED));
+        put(line::NON_STANDARDIZED, shown);
     }
-    put(94, truth(values.present(BLOCK)));
-    put(95, truth(values.present(LARGE)));
-    put(96, truth(values.present(PACKAGE)));
+    put(line::BLOCK, truth(values.present(BLOCK)));
+    put(line::LARGE, truth(values.present(LARGE)));
+    put(line::PACKAGE, truth(values.present(PACKAGE)));
     if is_package(values) {
         let (field, _) = shown(values.present(PRICE));
-        put(97, &field);
-        put(117, values.present(NOTATION));
+        put(line::PACKAGE_PRICE, &field);
+        put(line::NOTATION, values.present(NOTATION));
     }
     if has_price_currency(values) {
-        put(118, values.present(PRICE_CURRENCY));
+        put(line::PRICE_CURRENCY, values.present(PRICE_CURRENCY));
     }
     let asset_class = values.present(ASSET_CLASS);
-    put(121, asset_class);
+    put(line::CLASS, asset_class);
     let cap = asset_class_place(asset_class).map_or(0, |place| caps[place]);
     let (notional, plus) = masked_amount(values.present(NOTIONAL), cap);
-    put(123, &decimal::<16>(notional));
+    put(line::NOTIONAL, &decimal::<{ sizes::NOTIONAL }>(notional));
     if plus {
-        put(139, b"+");
+        put(line::PLUS, b"+");
     }
-    put(140, values.present(NOTIONAL_CURRENCY));
+    put(line::NOTIONAL_CURRENCY, values.present(NOTIONAL_CURRENCY));
     // "Code 22 is shown where it is sent."
-    put(143, values.present(LOCATION));
+    put(line::LOCATION, values.present(LOCATION));
     terms
 }
 
@@ -82,23 +78,26 @@ pub struct Lead<'a> {
     pub event_time: &'a [u8],
 }
 
-/// "A line takes the first 146 bytes of the tape buffer; later bytes stay."
+/// A line takes the first bytes "of the tape buffer; later bytes stay."
 /// The buffer is long enough (rule 4).
 pub fn write_line(tape: &mut [u8], lead: &Lead, terms: &[u8]) {
-    let line = &mut tape[..LINE];
+    let line = &mut tape[..line::SIZE];
     line.fill(b' ');
     let mut put = |at: usize, part: &[u8]| line[at..at + part.len()].copy_from_slice(part);
-    put(0, &decimal::<12>(lead.identifier));
+    put(
+        line::IDENTIFIER,
+        &decimal::<{ sizes::IDENTIFIER }>(lead.identifier),
+    );
     if let Some(previous) = lead.previous {
-        put(12, &decimal::<12>(previous));
+        put(line::PREVIOUS, &decimal::<{ sizes::IDENTIFIER }>(previous));
     }
-    put(24, lead.action);
+    put(line::ACTION, lead.action);
     if let Some(event) = lead.event {
-        put(28, event);
+        put(line::EVENT, event);
     }
-    put(32, lead.event_time);
-    put(TERMS_START, terms);
-    put(145, b"\n");
+    put(line::EVENT_TIME, lead.event_time);
+    put(line::TERMS, terms);
+    put(line::NEWLINE, b"\n");
 }
 
 /// "The tape shows T or F."
@@ -110,8 +109,8 @@ fn truth(v: &[u8]) -> &'static [u8] {
     }
 }
 
-/// Decimal, zero padded. Identifiers have at most 12 digits, amounts shown at
-/// most 16.
+/// Decimal, zero padded. Identifiers and amounts shown have no more digits
+/// than their fields.
 fn decimal<const N: usize>(mut number: u64) -> [u8; N] {
     let mut digits = [b'0'; N];
     for digit in digits.iter_mut().rev() {

@@ -1,9 +1,7 @@
 //! Section "The message".
 
 use crate::elements::HIGHEST_CODE;
-
-/// "The longest message is 2,048 bytes."
-const LONGEST: usize = 2_048;
+use crate::sizes::{COUNT, ENTRY, LONGEST_MESSAGE, U16};
 
 /// The values of one message by element code, each a part of the message.
 pub struct Values<'a> {
@@ -13,10 +11,10 @@ pub struct Values<'a> {
 impl<'a> Values<'a> {
     /// Reads the header. None where the layout is wrong (rule 5).
     pub fn read(message: &'a [u8]) -> Option<Values<'a>> {
-        if message.len() > LONGEST {
+        if message.len() > LONGEST_MESSAGE {
             return None;
         }
-        // "a u16 count n (0 to 25)"
+        // "a u16 count n", from 0 to the highest code
         let count = u16_at(message, 0)?;
         if count > HIGHEST_CODE {
             return None;
@@ -24,16 +22,16 @@ impl<'a> Values<'a> {
         let mut by_code = [None; HIGHEST_CODE as usize + 1];
         // "With n = 0 the message is 2 bytes."
         if count == 0 {
-            return (message.len() == 2).then_some(Values { by_code });
+            return (message.len() == COUNT).then_some(Values { by_code });
         }
         let (mut code, mut start) = entry(message, 0)?;
         // "The first offset is 2 + 4 times n."
-        if !is_code(code) || start != 2 + 4 * usize::from(count) || start >= message.len() {
+        if !is_code(code) || start != COUNT + ENTRY * usize::from(count) || start >= message.len() {
             return None;
         }
         for i in 1..usize::from(count) {
             let (next_code, next_start) = entry(message, i)?;
-            // "Codes lie in 1 to 25 and rise strictly."
+            // Codes lie in 1 to the highest "and rise strictly."
             if !is_code(next_code) || next_code <= code {
                 return None;
             }
@@ -67,13 +65,14 @@ fn is_code(code: u16) -> bool {
 
 /// Entry i of the header: element code and offset.
 fn entry(message: &[u8], i: usize) -> Option<(u16, usize)> {
-    let code = u16_at(message, 2 + 4 * i)?;
-    let offset = u16_at(message, 4 + 4 * i)?;
+    let at = COUNT + ENTRY * i;
+    let code = u16_at(message, at)?;
+    let offset = u16_at(message, at + U16)?;
     Some((code, usize::from(offset)))
 }
 
 fn u16_at(bytes: &[u8], at: usize) -> Option<u16> {
-    match bytes.get(at..at + 2) {
+    match bytes.get(at..at + U16) {
         Some(&[low, high]) => Some(u16::from_le_bytes([low, high])),
         _ => None,
     }

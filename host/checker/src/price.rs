@@ -1,9 +1,7 @@
 //! The package price, code 17: rule 12, and how the tape line shows it.
 
 use crate::forms::{is_price, split_at_point, without_minus};
-
-/// Bytes of the price in the line.
-pub const PRICE_FIELD: usize = 20;
+use crate::sizes::PRICE;
 
 /// Rule 12: a price with notation 3 has at most 11 digits, 10 after the point.
 pub fn price_too_long(v: &[u8]) -> bool {
@@ -12,22 +10,22 @@ pub fn price_too_long(v: &[u8]) -> bool {
     before.len() + after > 11 || after > 10
 }
 
-/// The 20 bytes of the line's field and the length without padding. None
+/// The bytes of the line's field and the length without padding. None
 /// where the bytes are not a price.
-pub fn shown_price(v: &[u8]) -> Option<([u8; PRICE_FIELD], usize)> {
+pub fn shown_price(v: &[u8]) -> Option<([u8; PRICE], usize)> {
     is_price(v).then(|| shown(v))
 }
 
 /// The same for bytes already found to be a price. It has at most a minus,
-/// 18 digits and a point: 20 bytes.
-pub fn shown(v: &[u8]) -> ([u8; PRICE_FIELD], usize) {
+/// 18 digits and a point, which the field takes.
+pub fn shown(v: &[u8]) -> ([u8; PRICE], usize) {
     let (before, after) = split_at_point(without_minus(v));
     let before = without_leading_zeros(before);
     let after = without_trailing_zeros(after.unwrap_or(&[]));
     // "the minus of zero" is dropped
     let is_zero = before.is_empty() && after.is_empty();
 
-    let mut field = [b' '; PRICE_FIELD];
+    let mut field = [b' '; PRICE];
     let mut length = 0;
     if v.starts_with(b"-") && !is_zero {
         append(&mut field, &mut length, b"-");
@@ -45,7 +43,7 @@ pub fn shown(v: &[u8]) -> ([u8; PRICE_FIELD], usize) {
     (field, length)
 }
 
-fn append(field: &mut [u8; PRICE_FIELD], length: &mut usize, part: &[u8]) {
+fn append(field: &mut [u8; PRICE], length: &mut usize, part: &[u8]) {
     for &b in part {
         if let Some(place) = field.get_mut(*length) {
             *place = b;

@@ -11,10 +11,11 @@ use crate::ledger::{
     is_long_enough, read_header, Header, Row, CLOSED, ERRORED, LAST_NEXT_IDENTIFIER, LIVE, PORTED,
     UNKNOWN,
 };
-use crate::line::{has_price_currency, is_not_cleared, is_package, LINE};
+use crate::line::{has_price_currency, is_not_cleared, is_package};
 use crate::matrix::is_pair;
 use crate::message::Values;
 use crate::price::price_too_long;
+use crate::sizes::line;
 
 /// What an operation answers.
 #[derive(Clone, Copy, Debug, PartialEq, Eq, Default)]
@@ -59,7 +60,7 @@ fn refuse_lowest(verdict: u8, at_fault: impl Fn(u16) -> bool) -> Judged<()> {
     }
 }
 
-/// 1. The ledger buffer is shorter than 224 bytes.
+/// 1. The ledger buffer is shorter than the shortest ledger.
 pub fn rule_1_buffer(ledger: &[u8]) -> Judged<()> {
     refuse_if(!is_long_enough(ledger), 1)
 }
@@ -69,15 +70,15 @@ pub fn rule_2_caps(caps: &[u64; 5]) -> Judged<()> {
     refuse_if(!caps.iter().all(|&cap| is_cap(cap)), 2)
 }
 
-/// 3. The ledger is shorter than 224 bytes, or its header breaks the layout,
-///    has more rows than capacity or has a cap that 2 refuses.
+/// 3. The ledger is shorter than the shortest one, or its header breaks the
+///    layout, has more rows than capacity or has a cap that 2 refuses.
 pub fn rule_3_ledger(ledger: &[u8]) -> Judged<Header> {
     read_header(ledger).ok_or(refusal(3))
 }
 
-/// 4. The tape buffer is shorter than 146 bytes, even for PRTO.
+/// 4. The tape buffer is shorter than a line, even for PRTO.
 pub fn rule_4_tape(tape: &[u8]) -> Judged<()> {
-    refuse_if(tape.len() < LINE, 4)
+    refuse_if(tape.len() < line::SIZE, 4)
 }
 
 /// 5. The message's layout is wrong.

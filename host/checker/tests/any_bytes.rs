@@ -1,6 +1,7 @@
 //! Any bytes get an answer, and a refusal changes no byte.
 
 mod common;
+use checker::sizes::{header, line, SHORTEST_LEDGER};
 use checker::*;
 use common::*;
 
@@ -103,11 +104,11 @@ fn changed_messages_and_ledgers() {
             }
         }
         if numbers.below(20) == 0 {
-            book.tape.truncate(numbers.below(150));
+            book.tape.truncate(numbers.below(line::SIZE + SPARE));
         }
         let messages = some_messages();
         let mut m = messages[numbers.below(messages.len())].clone();
-        let code = 1 + numbers.below(25) as u16;
+        let code = 1 + numbers.below(HIGHEST_CODE.into()) as u16;
         match numbers.below(4) {
             0 => drop(m.remove(&code)),
             1 => {
@@ -133,11 +134,14 @@ fn changed_messages_and_ledgers() {
             // An accepted message is one of the right form, and each line
             // takes one identifier.
             assert!(layout_right(&bytes));
-            let next = before.u64_at(8);
+            let next = before.u64_at(header::NEXT_IDENTIFIER);
             let is_prto = value(&bytes, 2) == Some(b"PRTO");
             let given = if is_prto { 0 } else { next };
             assert_eq!(answer.identifier, given);
-            assert_eq!(book.u64_at(8), next + u64::from(!is_prto));
+            assert_eq!(
+                book.u64_at(header::NEXT_IDENTIFIER),
+                next + u64::from(!is_prto)
+            );
             let asked = status(&book.ledger, value(&bytes, 1).unwrap());
             assert!((1..=4).contains(&asked.status));
             assert!(is_prto || asked.identifier == next);
@@ -164,7 +168,7 @@ fn ledgers_of_any_bytes() {
         let caps = [(); 5].map(|()| numbers.next() >> numbers.below(64));
         let verdict = open(&mut ledger, &caps);
         assert!(matches!(
-            (ledger.len() < 224, verdict),
+            (ledger.len() < SHORTEST_LEDGER, verdict),
             (true, 1) | (false, 0 | 2)
         ));
     }

@@ -2,6 +2,7 @@
 
 mod common;
 use checker::day::report;
+use checker::sizes::{COUNT, DAY_ROWS, ENTRY, LONGEST_MESSAGE};
 use common::*;
 
 /// A message led by its length.
@@ -58,7 +59,7 @@ fn small_day() -> Vec<(Vec<u8>, &'static str)> {
         (laid_out(&newt()), "2 0 0 1"),
         (vec![], "3 5 0 0"),
         (laid_out(&modi()), "4 0 0 2"),
-        (vec![b'x'; 2_050], "5 5 0 0"),
+        (vec![b'x'; LONGEST_MESSAGE + 2], "5 5 0 0"),
         (laid_out(&prto()), "6 0 0 0"),
         (laid_out(&without(modi(), 6)), "7 7 6 0"),
         (laid_out(&term()), "8 15 0 0"),
@@ -92,12 +93,13 @@ fn a_day_cut_at_every_byte() {
 
 #[test]
 fn the_longest_message_and_longer_ones() {
-    // A value of 2,042 bytes is no UTI, but there is no action: 6.
-    let longest = laid_out(&Elements::from([(1, vec![b'A'; 2_042])]));
-    assert_eq!(longest.len(), 2_048);
+    // So long a value is no UTI, but there is no action: 6.
+    let value = vec![b'A'; LONGEST_MESSAGE - COUNT - ENTRY];
+    let longest = laid_out(&Elements::from([(1, value)]));
+    assert_eq!(longest.len(), LONGEST_MESSAGE);
     let day = [framed(&longest), framed(&[&longest[..], b"A"].concat())].concat();
     assert_eq!(text(&day), lines(&["1 6 2 0", "2 5 0 0", "end 2 0"]));
-    for length in [2_049, 4_096, 65_535] {
+    for length in [LONGEST_MESSAGE + 1, 4_096, 65_535] {
         // The bytes passed over would be accepted as messages of their own.
         let inside = framed(&newt_of(1)).repeat(300);
         let overlong = framed(&inside[..length]);
@@ -112,19 +114,20 @@ fn the_longest_message_and_longer_ones() {
 }
 
 #[test]
-fn the_401st_swap_finds_no_row() {
+fn a_swap_too_many_finds_no_row() {
     let mut day = Vec::new();
     let mut due = String::from("message verdict element record\n");
-    for swap in 1..=400 {
+    for swap in 1..=DAY_ROWS {
         day.extend(framed(&newt_of(swap)));
         due += &format!("{swap} 0 0 {swap}\n");
     }
-    day.extend(framed(&newt_of(401)));
-    due += "401 17 0 0\n";
-    assert_eq!(text(&day), format!("{due}end 401 400\n"));
+    let (more, last) = (DAY_ROWS + 1, DAY_ROWS + 2);
+    day.extend(framed(&newt_of(more)));
+    due += &format!("{more} 17 0 0\n");
+    assert_eq!(text(&day), format!("{due}end {more} {DAY_ROWS}\n"));
     // A swap that has a row goes on.
-    let modi = with(modi(), 1, "5493001KJTIIGC8Y1R12N000400");
-    day.extend(framed(&laid_out(&modi)));
-    due += "402 0 0 401\n";
-    assert_eq!(text(&day), format!("{due}end 402 401\n"));
+    let known = format!("5493001KJTIIGC8Y1R12N{DAY_ROWS:06}");
+    day.extend(framed(&laid_out(&with(modi(), 1, &known))));
+    due += &format!("{last} 0 0 {more}\n");
+    assert_eq!(text(&day), format!("{due}end {last} {more}\n"));
 }

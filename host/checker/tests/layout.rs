@@ -1,7 +1,8 @@
 //! Section "The message" and rule 5.
 
 mod common;
-use checker::{layout_right, value};
+use checker::sizes::{COUNT, ENTRY, LONGEST_MESSAGE};
+use checker::{layout_right, value, HIGHEST_CODE};
 use common::*;
 
 fn with_header(entries: &[(u16, u16)], values: &[u8]) -> Vec<u8> {
@@ -18,16 +19,17 @@ fn with_header(entries: &[(u16, u16)], values: &[u8]) -> Vec<u8> {
 fn right_layouts() {
     assert!(layout_right(&[0, 0]));
     assert_eq!(value(&[0, 0], 1), None);
-    let m = with_header(&[(1, 10), (25, 13)], b"abcd");
+    let m = with_header(&[(1, 10), (HIGHEST_CODE, 13)], b"abcd");
     assert!(layout_right(&m));
     assert_eq!(value(&m, 1), Some(&b"abc"[..]));
-    assert_eq!(value(&m, 25), Some(&b"d"[..]));
-    for code in [0, 2, 24, 26, u16::MAX] {
+    assert_eq!(value(&m, HIGHEST_CODE), Some(&b"d"[..]));
+    for code in [0, 2, HIGHEST_CODE - 1, HIGHEST_CODE + 1, u16::MAX] {
         assert_eq!(value(&m, code), None);
     }
-    let all: Elements = (1..=25).map(|code| (code, vec![b'x'])).collect();
+    let all: Elements = (1..=HIGHEST_CODE).map(|code| (code, vec![b'x'])).collect();
     assert!(layout_right(&laid_out(&all)));
-    assert_eq!(laid_out(&all).len(), 2 + 100 + 25);
+    let count = usize::from(HIGHEST_CODE);
+    assert_eq!(laid_out(&all).len(), COUNT + ENTRY * count + count);
 }
 
 #[test]
@@ -43,12 +45,12 @@ fn wrong_layouts() {
         vec![],
         vec![0],
         vec![0, 0, 0],
-        vec![26, 0],
+        vec![HIGHEST_CODE as u8 + 1, 0],
         vec![0xFF; 200],
         with_header(&[], b"a"),
-        with_header(&[(1, 6)], b""),    // offset not below the length
-        with_header(&[(0, 6)], b"a"),   // code 0
-        with_header(&[(26, 6)], b"a"),  // code 26
+        with_header(&[(1, 6)], b""),  // offset not below the length
+        with_header(&[(0, 6)], b"a"), // code 0
+        with_header(&[(HIGHEST_CODE + 1, 6)], b"a"),
         with_header(&[(1, 7)], b"abc"), // first offset too high
         with_header(&[(1, 5)], b"abc"), // first offset too low
         with_header(&[(1, 10), (1, 11)], b"ab"), // code again
@@ -65,18 +67,21 @@ fn wrong_layouts() {
     }
     // a header cut short
     let m = laid_out(&newt());
-    for length in 0..=2 + 4 * newt().len() {
+    for length in 0..=COUNT + ENTRY * newt().len() {
         assert!(!layout_right(&m[..length]));
     }
-    // 26 entries
-    let many: Elements = (1..=26).map(|code| (code, vec![b'x'])).collect();
+    // an entry too many
+    let many: Elements = (1..=HIGHEST_CODE + 1)
+        .map(|code| (code, vec![b'x']))
+        .collect();
     assert!(!layout_right(&laid_out(&many)));
 }
 
 #[test]
 fn the_longest_message() {
-    let mut m = with_header(&[(1, 6)], &[b'a'; 2_042]);
-    assert_eq!(m.len(), 2_048);
+    let value = vec![b'a'; LONGEST_MESSAGE - COUNT - ENTRY];
+    let mut m = with_header(&[(1, 6)], &value);
+    assert_eq!(m.len(), LONGEST_MESSAGE);
     assert!(layout_right(&m));
     m.push(b'a');
     assert!(!layout_right(&m));

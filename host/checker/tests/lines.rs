@@ -1,12 +1,20 @@
-//! Sections "The tape line, 146 bytes" and "The ledger": what is written.
+//! Sections "The tape line" and "The ledger": what is written.
 
 mod common;
+use checker::sizes::{self, header, line, row, TERMS, U64};
 use common::*;
+use std::ops::Range;
+
+/// The masked terms.
+const TERMS_IN_LINE: Range<usize> = line::TERMS..line::TERMS_END;
+const TERMS_IN_ROW: Range<usize> = row::TERMS..row::ZEROS;
+/// What follows the plain UTI in its field.
+const PADDING: Range<usize> = row::UTI + UTI.len()..row::IDENTIFIER;
 
 /// A line from its fields.
 fn joined(fields: &[&str]) -> String {
     let line = fields.concat();
-    assert_eq!(line.len(), 146);
+    assert_eq!(line.len(), line::SIZE);
     line
 }
 
@@ -19,48 +27,52 @@ fn a_newt_field_by_field() {
     let mut book = Book::new(2);
     assert_eq!(book.accept(&m), 1);
     let line = joined(&[
-        "000000000001",         // 0 identifier
-        "            ",         // 12 previous one, blank for NEWT
-        "NEWT",                 // 24
-        "TRAD",                 // 28
-        "2024-03-02T09:00:00Z", // 32 event time
-        "2024-02-29T10:15:30Z", // 52 execution time
-        "2024-03-01",           // 72 effective
-        "2029-03-01",           // 82 expiration
-        "N",                    // 92 cleared
-        "T",                    // 93 non-standardized
-        "F",                    // 94 block
-        "T",                    // 95 large
-        "T",                    // 96 package
-        "-7.25               ", // 97 price
-        "1",                    // 117 notation
-        "EUR",                  // 118 price currency
-        "IR",                   // 121 asset class
-        "0000000012000000",     // 123 notional: 12,345,678.9
-        " ",                    // 139 plus
-        "USD",                  // 140 notional currency
-        "HK",                   // 143 location
-        "\n",                   // 145
+        "000000000001",         // identifier
+        "            ",         // previous one, blank for NEWT
+        "NEWT",                 // action
+        "TRAD",                 // event
+        "2024-03-02T09:00:00Z", // event time
+        "2024-02-29T10:15:30Z", // execution time
+        "2024-03-01",           // effective
+        "2029-03-01",           // expiration
+        "N",                    // cleared
+        "T",                    // non-standardized
+        "F",                    // block
+        "T",                    // large
+        "T",                    // package
+        "-7.25               ", // price
+        "1",                    // notation
+        "EUR",                  // price currency
+        "IR",                   // asset class
+        "0000000012000000",     // notional: 12,345,678.9
+        " ",                    // plus
+        "USD",                  // notional currency
+        "HK",                   // location
+        "\n",
     ]);
     assert_eq!(book.line(), line);
     // later bytes stay
-    assert_eq!(book.tape[146..], [0xDD; 4]);
+    assert_eq!(book.tape[line::SIZE..], [0xDD; SPARE]);
 
     // the row
     let mut row = vec![1, UTI.len() as u8];
     row.extend(UTI.bytes());
-    row.resize(54, b' ');
+    row.resize(row::IDENTIFIER, b' ');
     row.extend(1u64.to_le_bytes());
-    row.extend(line[52..145].bytes());
-    row.extend([0; 5]);
+    row.extend(line[TERMS_IN_LINE].bytes());
+    row.resize(row::SIZE, 0);
     assert_eq!(book.row(0), row);
     // the header, and no other row
-    assert_eq!(book.u32_at(0), 1);
-    assert_eq!(book.u64_at(8), 2);
-    assert_eq!(book.row(1), [0xEE; 160]);
+    assert_eq!(book.u32_at(header::ROWS), 1);
+    assert_eq!(book.u64_at(header::NEXT_IDENTIFIER), 2);
+    assert_eq!(book.row(1), [0xEE; row::SIZE]);
     let opened = Book::new(2);
-    assert_eq!(book.ledger[4..8], opened.ledger[4..8]);
-    assert_eq!(book.ledger[16..64], opened.ledger[16..64]);
+    for stays in [
+        header::FIRST_ROW..header::NEXT_IDENTIFIER,
+        header::CAPS..header::SIZE,
+    ] {
+        assert_eq!(book.ledger[stays.clone()], opened.ledger[stays]);
+    }
 }
 
 #[test]
@@ -68,8 +80,12 @@ fn what_is_missing_or_left_out_is_spaces() {
     let mut book = Book::new(9);
     book.accept(&newt());
     let line = book.line().to_string();
-    assert_eq!(&line[92..121], "I FTF                        ");
-    assert_eq!(&line[139..145], " USD  ");
+    assert_eq!(
+        &line[line::CLEARED..line::CLASS],
+        "I FTF                        "
+    );
+    let rest = line::PLUS..line::NEWLINE;
+    assert_eq!(line[rest.clone()], format!("{:1$}", " USD", rest.len()));
 
     // elements whose "if" is not met are left out
     let other = |n: u8, m: Elements| with(m, 1, &format!("{UTI}{n}"));
@@ -77,12 +93,18 @@ fn what_is_missing_or_left_out_is_spaces() {
     set(&mut m, 10, "Y");
     set(&mut m, 11, "True");
     book.accept(&other(1, m));
-    assert_eq!(&book.line()[92..121], "Y FTF                        ");
+    assert_eq!(
+        &book.line()[line::CLEARED..line::CLASS],
+        "Y FTF                        "
+    );
 
     // notation 3 has no price currency
     let m = with(with_package(newt(), "0.50", "3"), 19, "EUR");
     book.accept(&other(2, m));
-    assert_eq!(&book.line()[96..121], "T0.5                 3   ");
+    assert_eq!(
+        &book.line()[line::PACKAGE..line::CLASS],
+        "T0.5                 3   "
+    );
 }
 
 #[test]
@@ -92,7 +114,8 @@ fn each_asset_class_has_its_cap() {
     for (i, class) in ["CR", "IR", "FX", "EQ", "CO"].iter().enumerate() {
         let m = with(with(newt(), 25, class), 1, &format!("{UTI}{i}"));
         book.accept(&with(m, 20, "1000000"));
-        assert_eq!(&book.line()[121..140], format!("{class}{:016}+", caps[i]));
+        let shown = &book.line()[line::CLASS..line::NOTIONAL_CURRENCY];
+        assert_eq!(shown, format!("{class}{:016}+", caps[i]));
     }
 }
 
@@ -100,11 +123,11 @@ fn each_asset_class_has_its_cap() {
 fn the_greatest_notional_has_16_digits() {
     let mut book = Book::with_caps(1, &[1_000_000_000_000_000; 5]);
     book.accept(&with(newt(), 20, "1000000000000000"));
-    assert_eq!(&book.line()[123..140], "1000000000000000 ");
+    assert_eq!(&book.line()[AMOUNT], "1000000000000000 ");
 }
 
 /// What changed between two ledgers, as ranges that may change.
-fn only_changed(before: &Book, after: &Book, ranges: &[std::ops::Range<usize>]) {
+fn only_changed(before: &Book, after: &Book, ranges: &[Range<usize>]) {
     for (at, (b, a)) in before.ledger.iter().zip(&after.ledger).enumerate() {
         let named = ranges.iter().any(|r| r.contains(&at));
         assert!(named || b == a, "byte {at}");
@@ -116,9 +139,11 @@ fn the_life_of_a_swap() {
     let mut book = Book::new(3);
     book.accept(&with(newt(), 1, "ANOTHERSWAP0000000000001"));
     assert_eq!(book.accept(&newt()), 2);
-    let row = 64 + 160;
-    let (status, identifier, terms) = (row..row + 1, row + 54..row + 62, row + 62..row + 155);
-    let next = 8..16;
+    let in_row = |at: usize, size: usize| sizes::ledger(1) + at..sizes::ledger(1) + at + size;
+    let status = in_row(row::STATUS, 1);
+    let identifier = in_row(row::IDENTIFIER, U64);
+    let terms = in_row(row::TERMS, TERMS);
+    let next = header::NEXT_IDENTIFIER..header::NEXT_IDENTIFIER + U64;
 
     // MODI writes status, terms and identifier
     let before = book.clone();
@@ -133,9 +158,12 @@ fn the_life_of_a_swap() {
             terms.clone(),
         ],
     );
-    assert_eq!(&book.line()[..32], "000000000003000000000002MODITRAD");
-    assert_eq!(&book.line()[123..140], "0000000000000100 ");
-    assert_eq!(book.row(1)[62..155], book.tape[52..145]);
+    assert_eq!(
+        &book.line()[..line::EVENT_TIME],
+        "000000000003000000000002MODITRAD"
+    );
+    assert_eq!(&book.line()[AMOUNT], "0000000000000100 ");
+    assert_eq!(book.row(1)[TERMS_IN_ROW], book.tape[TERMS_IN_LINE]);
 
     // TERM writes status and identifier, and shows the stored terms
     let before = book.clone();
@@ -146,11 +174,14 @@ fn the_life_of_a_swap() {
         &[next.clone(), status.clone(), identifier.clone()],
     );
     assert_eq!(
-        &book.line()[..52],
+        &book.line()[..line::TERMS],
         "000000000004000000000003TERMETRM2025-01-01T00:00:00Z"
     );
-    assert_eq!(book.tape[52..146], before.tape[52..146]);
-    assert_eq!(book.row(1)[0], 2);
+    assert_eq!(
+        book.tape[line::TERMS..line::SIZE],
+        before.tape[line::TERMS..line::SIZE]
+    );
+    assert_eq!(book.row(1)[row::STATUS], 2);
 
     // CORR of a closed swap: the status stays
     let before = book.clone();
@@ -165,9 +196,12 @@ fn the_life_of_a_swap() {
             terms.clone(),
         ],
     );
-    assert_eq!(&book.line()[..32], "000000000005000000000004CORR    ");
-    assert_eq!(&book.line()[123..140], "0000000012000000 ");
-    assert_eq!(book.row(1)[0], 2);
+    assert_eq!(
+        &book.line()[..line::EVENT_TIME],
+        "000000000005000000000004CORR    "
+    );
+    assert_eq!(&book.line()[AMOUNT], "0000000012000000 ");
+    assert_eq!(book.row(1)[row::STATUS], 2);
 
     // EROR
     let before = book.clone();
@@ -177,21 +211,30 @@ fn the_life_of_a_swap() {
         &book,
         &[next.clone(), status.clone(), identifier.clone()],
     );
-    assert_eq!(&book.line()[..32], "000000000006000000000005EROR    ");
-    assert_eq!(book.tape[52..146], before.tape[52..146]);
+    assert_eq!(
+        &book.line()[..line::EVENT_TIME],
+        "000000000006000000000005EROR    "
+    );
+    assert_eq!(
+        book.tape[line::TERMS..line::SIZE],
+        before.tape[line::TERMS..line::SIZE]
+    );
 
     // REVI
     assert_eq!(book.accept(&full("REVI", None)), 7);
-    assert_eq!(&book.line()[..32], "000000000007000000000006REVI    ");
+    assert_eq!(
+        &book.line()[..line::EVENT_TIME],
+        "000000000007000000000006REVI    "
+    );
 
     // PRTO writes only the status, and no byte of the tape buffer
     let before = book.clone();
     assert_eq!(book.accept(&prto()), 0);
     only_changed(&before, &book, &[status]);
     assert_eq!(book.tape, before.tape);
-    assert_eq!(book.row(1)[0], 4);
-    assert_eq!(book.u64_at(8), 8);
-    assert_eq!(book.u32_at(0), 2);
+    assert_eq!(book.row(1)[row::STATUS], 4);
+    assert_eq!(book.u64_at(header::NEXT_IDENTIFIER), 8);
+    assert_eq!(book.u32_at(header::ROWS), 2);
 }
 
 #[test]
@@ -201,31 +244,34 @@ fn the_first_row_of_equal_length_and_bytes_is_the_swaps() {
     book.accept(&with(newt(), 1, &longer));
     book.accept(&newt());
     // padding is not compared
-    book.row_mut(1)[2 + UTI.len()..54].fill(b'A');
+    book.row_mut(1)[PADDING].fill(b'A');
     book.accept(&modi());
-    assert_eq!(book.row(1)[54], 3);
+    assert_eq!(book.row(1)[row::IDENTIFIER], 3);
     // a copy of the row further on is not reached
     let copy = book.row(1).to_vec();
     book.row_mut(2).copy_from_slice(&copy);
-    book.set_u32(0, 3);
+    book.set_u32(header::ROWS, 3);
     book.accept(&modi());
-    assert_eq!((book.row(1)[54], book.row(2)[54]), (4, 3));
+    let identifiers = [1, 2].map(|place| book.row(place)[row::IDENTIFIER]);
+    assert_eq!(identifiers, [4, 3]);
     // a row that is not in use is not the swap's
-    book.set_u32(0, 1);
+    book.set_u32(header::ROWS, 1);
     book.refuse(&modi(), 15, 0);
     book.accept(&newt());
-    assert_eq!(book.row(1)[0], 1);
-    assert_eq!(book.row(1)[2 + UTI.len()..54], vec![b' '; 52 - UTI.len()]);
+    assert_eq!(book.row(1)[row::STATUS], 1);
+    assert_eq!(book.row(1)[PADDING], vec![b' '; sizes::UTI - UTI.len()]);
 }
 
 #[test]
 fn the_shortest_and_the_longest_uti() {
     let mut book = Book::new(2);
-    for (place, length) in [21, 52].into_iter().enumerate() {
+    for (place, length) in [21, sizes::UTI].into_iter().enumerate() {
         let uti = "X".repeat(length);
         book.accept(&with(newt(), 1, &uti));
-        assert_eq!(usize::from(book.row(place)[1]), length);
-        assert_eq!(&book.row(place)[2..2 + length], uti.as_bytes());
-        assert!(book.row(place)[2 + length..54].iter().all(|&b| b == b' '));
+        let row = book.row(place);
+        assert_eq!(usize::from(row[row::UTI_LENGTH]), length);
+        let (stored, padding) = row[row::UTI..row::IDENTIFIER].split_at(length);
+        assert_eq!(stored, uti.as_bytes());
+        assert!(padding.iter().all(|&b| b == b' '));
     }
 }

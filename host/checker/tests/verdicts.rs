@@ -1,19 +1,20 @@
 //! Section "Verdict numbers, in checking order".
 
 mod common;
-use checker::{open, status, submit, Answer};
+use checker::sizes::{self, header, line, row, GREATEST_CAPACITY, SHORTEST_LEDGER, U64};
+use checker::{open, status, submit, Answer, HIGHEST_CODE};
 use common::*;
 
 #[test]
 fn verdict_1_short_buffer() {
-    for length in [0, 1, 63, 64, 223] {
+    for length in [0, 1, header::SIZE - 1, header::SIZE, SHORTEST_LEDGER - 1] {
         let mut ledger = vec![7; length];
         assert_eq!(open(&mut ledger, &CAPS), 1);
         // 1 comes before 2
         assert_eq!(open(&mut ledger, &[0; 5]), 1);
         assert_eq!(ledger, vec![7; length]);
     }
-    assert_eq!(open(&mut [7; 224], &CAPS), 0);
+    assert_eq!(open(&mut [7; SHORTEST_LEDGER], &CAPS), 0);
 }
 
 #[test]
@@ -22,9 +23,9 @@ fn verdict_2_caps() {
         for i in 0..5 {
             let mut caps = CAPS;
             caps[i] = bad;
-            let mut ledger = [7; 300];
+            let mut ledger = [7; sizes::ledger(2)];
             assert_eq!(open(&mut ledger, &caps), 2);
-            assert_eq!(ledger, [7; 300]);
+            assert_eq!(ledger, [7; sizes::ledger(2)]);
         }
     }
 }
@@ -38,28 +39,38 @@ fn opening_writes_the_header_alone() {
         150_000_000_000,
         1_000_000_000_000_000,
     ];
-    for (length, capacity) in [(224, 1), (383, 1), (384, 2), (64 + 160 * 400, 400)] {
+    for (length, capacity) in [
+        (SHORTEST_LEDGER, 1),
+        (sizes::ledger(2) - 1, 1),
+        (sizes::ledger(2), 2),
+        (sizes::ledger(400), 400),
+    ] {
         let mut ledger = vec![0xEE; length];
         assert_eq!(open(&mut ledger, &caps), 0);
         let mut header = Vec::new();
         header.extend(0u32.to_le_bytes());
-        header.extend(64u32.to_le_bytes());
+        header.extend((header::SIZE as u32).to_le_bytes());
         header.extend(1u64.to_le_bytes());
         for cap in caps {
             header.extend(cap.to_le_bytes());
         }
-        header.extend(160u32.to_le_bytes());
+        header.extend((row::SIZE as u32).to_le_bytes());
         header.extend((capacity as u32).to_le_bytes());
-        assert_eq!(ledger[..64], header);
-        assert!(ledger[64..].iter().all(|&b| b == 0xEE));
+        assert_eq!(ledger[..header::SIZE], header);
+        assert!(ledger[header::SIZE..].iter().all(|&b| b == 0xEE));
     }
 }
 
 #[test]
 fn capacity_is_at_most_100_000() {
-    for (rows, capacity) in [(99_999, 99_999), (100_000, 100_000), (100_001, 100_000)] {
+    let greatest = GREATEST_CAPACITY;
+    for (rows, capacity) in [
+        (greatest - 1, greatest - 1),
+        (greatest, greatest),
+        (greatest + 1, greatest),
+    ] {
         let book = Book::new(rows);
-        assert_eq!(book.u32_at(60), capacity);
+        assert_eq!(book.u32_at(header::CAPACITY) as usize, capacity);
         assert_eq!(status(&book.ledger, UTI.as_bytes()), Answer::default());
     }
 }
@@ -77,22 +88,22 @@ fn breaks_the_ledger(mut book: Book) {
 #[test]
 fn verdict_3_ledger() {
     let book = Book::new(3);
-    for length in [0, 4, 63, 64, 223] {
+    for length in [0, 4, header::SIZE - 1, header::SIZE, SHORTEST_LEDGER - 1] {
         let mut short = book.clone();
         short.ledger.truncate(length);
         breaks_the_ledger(short);
     }
     for (at, bad) in [
-        (0, 4), // more rows than capacity
-        (0, u32::MAX),
-        (4, 0), // offset of the first row
-        (4, 65),
-        (4, u32::MAX),
-        (56, 159), // row size
-        (56, 0),
-        (60, 2), // capacity
-        (60, 4),
-        (60, u32::MAX),
+        (header::ROWS, 4), // more than capacity
+        (header::ROWS, u32::MAX),
+        (header::FIRST_ROW, 0),
+        (header::FIRST_ROW, header::SIZE as u32 + 1),
+        (header::FIRST_ROW, u32::MAX),
+        (header::ROW_SIZE, row::SIZE as u32 - 1),
+        (header::ROW_SIZE, 0),
+        (header::CAPACITY, 2),
+        (header::CAPACITY, 4),
+        (header::CAPACITY, u32::MAX),
     ] {
         let mut broken = book.clone();
         broken.set_u32(at, bad);
@@ -100,41 +111,41 @@ fn verdict_3_ledger() {
     }
     for bad in [0, 1_000_000_000_001, u64::MAX] {
         let mut broken = book.clone();
-        broken.set_u64(8, bad);
+        broken.set_u64(header::NEXT_IDENTIFIER, bad);
         breaks_the_ledger(broken);
     }
     for i in 0..5 {
         for bad in [0, 999, 250_000_001, u64::MAX] {
             let mut broken = book.clone();
-            broken.set_u64(16 + 8 * i, bad);
+            broken.set_u64(header::CAPS + U64 * i, bad);
             breaks_the_ledger(broken);
         }
     }
     // the capacity is that of the length
     let mut longer = book.clone();
-    longer.ledger.extend([0; 160]);
+    longer.ledger.extend([0; row::SIZE]);
     breaks_the_ledger(longer);
     // a length that leaves the capacity alone
     let mut longer = book.clone();
-    longer.ledger.extend([0; 159]);
+    longer.ledger.extend([0; row::SIZE - 1]);
     longer.accept(&newt());
     // a full header of 0xFF
     let mut broken = book;
-    broken.ledger[..64].fill(0xFF);
+    broken.ledger[..header::SIZE].fill(0xFF);
     breaks_the_ledger(broken);
 }
 
 #[test]
 fn verdict_4_tape() {
     let mut book = Book::new(3);
-    book.tape.truncate(145);
+    book.tape.truncate(line::SIZE - 1);
     assert_eq!(book.submit(&newt()), refused(4, 0));
     // 4 comes before 5
     assert_eq!(book.submit_bytes(&[]), refused(4, 0));
     book.tape.push(0);
     book.accept(&newt());
     // even for PRTO
-    book.tape.truncate(145);
+    book.tape.truncate(line::SIZE - 1);
     assert_eq!(book.submit(&prto()), refused(4, 0));
 }
 
@@ -199,13 +210,13 @@ fn verdict_8_above_5() {
     book.accept(&newt());
     let all = with(with_package(full("TERM", Some("ETRM")), "1", "1"), 22, "US");
     let all = with(all, 11, "True");
-    assert_eq!(all.len(), 25);
+    assert_eq!(all.len(), usize::from(HIGHEST_CODE));
     for (action, event) in [
         ("TERM", Some("ETRM")),
         ("EROR", None),
         ("PRTO", Some("PTNG")),
     ] {
-        for code in 6..=25 {
+        for code in 6..=HIGHEST_CODE {
             let mut m = short(action, event);
             m.insert(code, all[&code].clone());
             book.refuse(&m, 8, code as u8);
@@ -370,9 +381,9 @@ fn verdict_13_order() {
     book.accept(&m);
     // 13 comes before 14 and 15
     book.refuse(&with(newt(), 8, "2024-02-29"), 13, 0);
-    book.row_mut(0)[0] = 9;
+    book.row_mut(0)[row::STATUS] = 9;
     book.refuse(&with(newt(), 8, "2024-02-29"), 13, 0);
-    book.row_mut(0)[0] = 1;
+    book.row_mut(0)[row::STATUS] = 1;
     // an earlier reporting time is nothing to TERM
     book.accept(&with(term(), 5, "1900-01-01T00:00:00Z"));
 }
@@ -382,7 +393,7 @@ fn verdict_14_row() {
     let mut book = Book::new(3);
     book.accept(&newt());
     book.accept(&modi());
-    assert_eq!(book.u64_at(8), 3);
+    assert_eq!(book.u64_at(header::NEXT_IDENTIFIER), 3);
     let messages = [
         newt(),
         modi(),
@@ -400,17 +411,17 @@ fn verdict_14_row() {
     };
     for bad in [0, 5, 255] {
         let mut broken = book.clone();
-        broken.row_mut(0)[0] = bad;
+        broken.row_mut(0)[row::STATUS] = bad;
         asks_14(&mut broken);
     }
     for bad in [0, 3, 4, u64::MAX] {
         let mut broken = book.clone();
-        broken.set_u64(64 + 54, bad);
+        broken.set_u64(header::SIZE + row::IDENTIFIER, bad);
         asks_14(&mut broken);
     }
     for good in [1, 2] {
         let mut other = book.clone();
-        other.set_u64(64 + 54, good);
+        other.set_u64(header::SIZE + row::IDENTIFIER, good);
         let answer = status(&other.ledger, UTI.as_bytes());
         assert_eq!(
             (answer.verdict, answer.status, answer.identifier),
@@ -418,7 +429,7 @@ fn verdict_14_row() {
         );
     }
     // with next identifier 1 no identifier is right
-    book.set_u64(8, 1);
+    book.set_u64(header::NEXT_IDENTIFIER, 1);
     asks_14(&mut book);
     // another swap's row does not matter
     book.accept(&with(newt(), 1, "ANOTHERSWAP0000000000001"));
@@ -450,14 +461,14 @@ fn verdict_15_status() {
             let mut book = Book::new(3);
             if before > 0 {
                 book.accept(&newt());
-                book.row_mut(0)[0] = before as u8;
+                book.row_mut(0)[row::STATUS] = before as u8;
             }
             let answer = book.submit(m);
             if after == 15 {
                 assert_eq!(answer, refused(15, 0), "{action} from {before}");
             } else {
                 assert_eq!(answer.verdict, 0, "{action} from {before}");
-                assert_eq!(book.row(0)[0], after, "{action} from {before}");
+                assert_eq!(book.row(0)[row::STATUS], after, "{action} from {before}");
                 assert_eq!(status(&book.ledger, UTI.as_bytes()).status, after);
             }
         }
@@ -490,10 +501,10 @@ fn verdict_17_capacity() {
     book.refuse(&swap(3), 17, 0);
     // 15 comes before 17, and 17 before 18
     book.refuse(&swap(2), 15, 0);
-    book.set_u64(8, 1_000_000_000_000);
+    book.set_u64(header::NEXT_IDENTIFIER, 1_000_000_000_000);
     book.refuse(&swap(3), 17, 0);
     // only NEWT asks for a row
-    book.set_u64(8, 3);
+    book.set_u64(header::NEXT_IDENTIFIER, 3);
     book.accept(&with(modi(), 1, &format!("{UTI}1")));
     // rows in use can be equal to capacity
     assert_eq!(status(&book.ledger, format!("{UTI}2").as_bytes()).status, 1);
@@ -503,10 +514,10 @@ fn verdict_17_capacity() {
 fn verdict_18_identifiers() {
     let mut book = Book::new(2);
     book.accept(&newt());
-    book.set_u64(8, 999_999_999_999);
+    book.set_u64(header::NEXT_IDENTIFIER, 999_999_999_999);
     assert_eq!(book.accept(&modi()), 999_999_999_999);
-    assert_eq!(&book.line()[..24], "999999999999000000000001");
-    assert_eq!(book.u64_at(8), 1_000_000_000_000);
+    assert_eq!(&book.line()[..line::ACTION], "999999999999000000000001");
+    assert_eq!(book.u64_at(header::NEXT_IDENTIFIER), 1_000_000_000_000);
     for m in [
         modi(),
         full("CORR", None),
@@ -526,7 +537,13 @@ fn verdict_18_identifiers() {
 fn status_question() {
     let mut book = Book::new(2);
     let ask = |book: &Book| status(&book.ledger, UTI.as_bytes());
-    for bad in ["", "ABC", &"A".repeat(20), &"A".repeat(53), &"a".repeat(30)] {
+    for bad in [
+        "",
+        "ABC",
+        &"A".repeat(20),
+        &"A".repeat(sizes::UTI + 1),
+        &"a".repeat(30),
+    ] {
         assert_eq!(status(&book.ledger, bad.as_bytes()), refused(9, 1));
     }
     assert_eq!(ask(&book), Answer::default());
@@ -557,9 +574,9 @@ mod misreadings {
     fn the_exact_amount_is_compared_with_the_cap() {
         let mut book = Book::new(1);
         book.accept(&with(newt(), 20, "250400000"));
-        assert_eq!(&book.line()[123..140], "0000000250000000+");
+        assert_eq!(&book.line()[AMOUNT], "0000000250000000+");
         book.accept(&with(modi(), 20, "250000000"));
-        assert_eq!(&book.line()[123..140], "0000000250000000 ");
+        assert_eq!(&book.line()[AMOUNT], "0000000250000000 ");
     }
 
     #[test]
@@ -567,9 +584,9 @@ mod misreadings {
         let mut book = Book::new(1);
         // 2 to the 64th and 1,000
         book.accept(&with(newt(), 20, "18446744073709552616"));
-        assert_eq!(&book.line()[123..140], "0000000250000000+");
+        assert_eq!(&book.line()[AMOUNT], "0000000250000000+");
         book.accept(&with(modi(), 20, "9999999999999999999999999"));
-        assert_eq!(&book.line()[123..140], "0000000250000000+");
+        assert_eq!(&book.line()[AMOUNT], "0000000250000000+");
     }
 
     #[test]
@@ -591,9 +608,9 @@ mod misreadings {
     #[test]
     fn no_row_is_written_where_identifiers_are_spent() {
         let mut book = Book::new(1);
-        book.set_u64(8, 1_000_000_000_000);
+        book.set_u64(header::NEXT_IDENTIFIER, 1_000_000_000_000);
         // Book::submit sees that no byte changes.
         book.refuse(&newt(), 18, 0);
-        assert_eq!(book.u32_at(0), 0);
+        assert_eq!(book.u32_at(header::ROWS), 0);
     }
 }

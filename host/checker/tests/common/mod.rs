@@ -1,8 +1,10 @@
 //! Messages and ledgers for the tests.
 #![allow(dead_code)]
 
+use checker::sizes::{self, line, row, COUNT, ENTRY, U32, U64};
 use checker::{open, submit, Answer};
 use std::collections::BTreeMap;
+use std::ops::Range;
 
 pub const UTI: &str = "5493001KJTIIGC8Y1R12SWAP0001";
 pub const LEI_1: &str = "5493001KJTIIGC8Y1R12";
@@ -19,7 +21,7 @@ pub fn laid_out(elements: &Elements) -> Vec<u8> {
     let mut header = (elements.len() as u16).to_le_bytes().to_vec();
     let mut values: Vec<u8> = Vec::new();
     for (code, v) in elements {
-        let offset = 2 + 4 * elements.len() + values.len();
+        let offset = COUNT + ENTRY * elements.len() + values.len();
         header.extend(code.to_le_bytes());
         header.extend((offset as u16).to_le_bytes());
         values.extend(v);
@@ -107,6 +109,11 @@ pub fn prto() -> Elements {
     short("PRTO", Some("PTNG"))
 }
 
+/// The notional and the plus sign in a line.
+pub const AMOUNT: Range<usize> = line::NOTIONAL..line::NOTIONAL_CURRENCY;
+/// Bytes of the tape buffer behind the line.
+pub const SPARE: usize = 4;
+
 /// A ledger of some rows and a tape buffer.
 #[derive(Clone, PartialEq, Eq, Debug)]
 pub struct Book {
@@ -120,11 +127,11 @@ impl Book {
     }
 
     pub fn with_caps(rows: usize, caps: &[u64; 5]) -> Book {
-        let mut ledger = vec![0xEE; 64 + 160 * rows];
+        let mut ledger = vec![0xEE; sizes::ledger(rows)];
         assert_eq!(open(&mut ledger, caps), 0);
         Book {
             ledger,
-            tape: vec![0xDD; 150],
+            tape: vec![0xDD; line::SIZE + SPARE],
         }
     }
 
@@ -158,31 +165,31 @@ impl Book {
     }
 
     pub fn line(&self) -> &str {
-        std::str::from_utf8(&self.tape[..146]).unwrap()
+        std::str::from_utf8(&self.tape[..line::SIZE]).unwrap()
     }
 
     pub fn row(&self, place: usize) -> &[u8] {
-        &self.ledger[64 + 160 * place..][..160]
+        &self.ledger[sizes::ledger(place)..][..row::SIZE]
     }
 
     pub fn row_mut(&mut self, place: usize) -> &mut [u8] {
-        &mut self.ledger[64 + 160 * place..][..160]
+        &mut self.ledger[sizes::ledger(place)..][..row::SIZE]
     }
 
     pub fn u32_at(&self, at: usize) -> u32 {
-        u32::from_le_bytes(self.ledger[at..at + 4].try_into().unwrap())
+        u32::from_le_bytes(self.ledger[at..at + U32].try_into().unwrap())
     }
 
     pub fn u64_at(&self, at: usize) -> u64 {
-        u64::from_le_bytes(self.ledger[at..at + 8].try_into().unwrap())
+        u64::from_le_bytes(self.ledger[at..at + U64].try_into().unwrap())
     }
 
     pub fn set_u32(&mut self, at: usize, n: u32) {
-        self.ledger[at..at + 4].copy_from_slice(&n.to_le_bytes());
+        self.ledger[at..at + U32].copy_from_slice(&n.to_le_bytes());
     }
 
     pub fn set_u64(&mut self, at: usize, n: u64) {
-        self.ledger[at..at + 8].copy_from_slice(&n.to_le_bytes());
+        self.ledger[at..at + U64].copy_from_slice(&n.to_le_bytes());
     }
 }
 
