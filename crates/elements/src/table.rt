@@ -95,30 +95,30 @@ pub fn element_of(code: u16) -> Element
     ensures { λ r. ⌜ r ≡ elementOf code ⌝ }
 {
     match code {
-        1 => row(Uti, All, All, Never, Always, Hidden), // UTI
+        1 => row(Uti, All, All, Never, Never, Hidden), // UTI
         2 => row(Action, All, All, Never, Always, Shown), // action type
         3 => row(Event, All, None, Never, Always, Shown), // event type, needed by pair
         4 => row(Time, All, All, Never, Always, Shown), // event timestamp
-        5 => row(Time, All, All, Never, Always, Hidden), // reporting timestamp
+        5 => row(Time, All, All, Never, Never, Hidden), // reporting timestamp
         6 => row(Time, Full, Full, Never, Always, Shown), // execution timestamp
         7 => row(Date, Full, Full, Never, Always, Shown), // effective date
         8 => row(Date, Full, Full, Never, Always, Shown), // expiration date
-        9 => row(Date, Full, Full, Never, Always, Hidden), // final contractual settlement date
+        9 => row(Date, Full, Full, Never, Never, Hidden), // final contractual settlement date
         10 => row(Cleared, Full, Full, Never, Always, Shown), // cleared
         11 => row(Truth, Full, None, ClearedIsN, ClearedIsN, Shown), // non-standardized term
         12 => row(Truth, Full, Full, Never, Always, Shown), // block election
         13 => row(Truth, Full, Full, Never, Always, Shown), // large notional election
-        14 => row(Allocation, Full, Full, Never, Always, Hidden), // allocation
+        14 => row(Allocation, Full, Full, Never, Never, Hidden), // allocation
         15 => row(Truth, Full, Full, Never, Always, Shown), // package indicator
-        16 => row(PackageIdentifier, Full, None, Package, Package, Hidden), // package identifier
+        16 => row(PackageIdentifier, Full, None, Package, Never, Hidden), // package identifier
         17 => row(Price, Full, None, Package, Package, Shown), // package price
         18 => row(Notation, Full, None, Package, Package, Shown), // price notation
         19 => row(Currency, Full, None, InCurrency, InCurrency, Shown), // price currency
         20 => row(Notional, Full, Full, Never, Always, Masked), // notional amount
         21 => row(Currency, Full, Full, Never, Always, Shown), // notional currency
         22 => row(Location, Full, None, Never, Always, Shown), // settlement location
-        23 => row(Lei, Full, Full, Never, Always, Hidden), // counterparty 1
-        24 => row(Lei, Full, Full, Never, Always, Hidden), // counterparty 2
+        23 => row(Lei, Full, Full, Never, Never, Hidden), // counterparty 1
+        24 => row(Lei, Full, Full, Never, Never, Hidden), // counterparty 2
         25 => row(AssetClass, Full, Full, Never, Always, Shown), // asset class
         _ => row(Unknown, None, None, Never, Never, Hidden),
     }

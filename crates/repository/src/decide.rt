@@ -4,7 +4,7 @@ ghost use mathlib.Core.Path.{_≡_};
 ghost use Rattle.octets.specs.Bytes.{Bytes};
 ghost use Rattle.octets.specs.Choice.{choose};
 ghost use Rattle.actions.specs.Actions.{isFull};
-ghost use Rattle.ledger.specs.declared.search.Swap.{Swap as Known};
+ghost use Rattle.ledger.specs.declared.search.Swap.{Swap as SwapValues};
 ghost use Rattle.rules.specs.Verdicts.{layoutWrong};
 ghost use Rattle.submission.specs.Verdicts.{tapeShort, rowWrong, notAdmitted, otherTime, ledgerFull, identifiersSpent};
 ghost use Rattle.submission.specs.Lent.{Buffers, lentOf};
@@ -213,7 +213,7 @@ fn decide_step(
 
 // 16
 fn decide_time(s: Acceptance, header: Header, time: &[u8], m: &[u8]) -> Decision
-    ensures { λ r. ⌜ ((swap : Known) → r ≡ decidedFrom otherTime header swap (now (time .entry)) (now (m .entry)) s) ⌝ }
+    ensures { λ r. ⌜ ((swap : SwapValues) → r ≡ decidedFrom otherTime header swap (now (time .entry)) (now (m .entry)) s) ⌝ }
 {
     let a = s.action;
     if has_other_time(a, time, m) {
@@ -224,7 +224,7 @@ fn decide_time(s: Acceptance, header: Header, time: &[u8], m: &[u8]) -> Decision
 
 // 17
 fn decide_room(s: Acceptance, header: Header) -> Decision
-    ensures { λ r. ⌜ ((swap : Known) (time m : Bytes) → r ≡ decidedFrom ledgerFull header swap time m s) ⌝ }
+    ensures { λ r. ⌜ ((swap : SwapValues) (time m : Bytes) → r ≡ decidedFrom ledgerFull header swap time m s) ⌝ }
 {
     let a = s.action;
     if finds_full(a, header) {
@@ -235,7 +235,7 @@ fn decide_room(s: Acceptance, header: Header) -> Decision
 
 // 18
 fn decide_identifier(s: Acceptance, header: Header) -> Decision
-    ensures { λ r. ⌜ ((swap : Known) (time m : Bytes) → r ≡ decidedFrom identifiersSpent header swap time m s) ⌝ }
+    ensures { λ r. ⌜ ((swap : SwapValues) (time m : Bytes) → r ≡ decidedFrom identifiersSpent header swap time m s) ⌝ }
 {
     let a = s.action;
     if finds_spent(a, header) {
