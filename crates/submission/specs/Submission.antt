@@ -61,7 +61,7 @@ findsFull a h = both (isNew a) (eqb (h .rows) (h .capacity))
 unfoldable pub findsSpent : Action → Header → Bool
 findsSpent a h = both (writesLine a) (eqb (h .next) identifierLimit)
 
--- for the message m of a swap with this execution timestamp
+-- in checking order, for the message m of a swap with this execution timestamp
 unfoldable pub swapRules : Action → Header → Swap → Bytes → Bytes → List Rule
 swapRules a h s time m =
     test rowWrong (hasWrongRow (h .next) s)
@@ -102,7 +102,7 @@ verdictOn limits lent m = firstBroken (rulesOn limits lent m)
 unfoldable pub capOn : Caps → Bytes → ℕ
 capOn caps m = capFor caps (value assetClass m)
 
--- masked terms are what a full message's elements and the caps put into a line up to the newline
+-- masked terms are what a full message's elements and the caps put into a line from the execution time up to the newline
 unfoldable pub maskedTerms : Caps → Bytes → Bytes
 maskedTerms caps m = termsOf (capOn caps m) m
 
