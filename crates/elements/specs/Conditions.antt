@@ -18,17 +18,17 @@ use Rattle.elements.specs.Table.{elementOf}
 unfoldable pub isPackage : Bytes → Bool
 isPackage m = isTrue (value packageIndicator m)
 
--- 18 is a code
-unfoldable pub notationIs : Bytes → Bytes → Bool
-notationIs code m = sameBytes (value priceNotation m) code
+-- the value of an element is this one
+unfoldable pub valueIs : ℕ → Bytes → Bytes → Bool
+valueIs code v m = sameBytes (value code m) v
 
 -- what the "if"s ask of a message
 unfoldable pub factsOf : Bytes → Facts
 factsOf m =
     record {
-      uncleared = sameBytes (value cleared m) (text "N");
+      uncleared = valueIs cleared (text "N") m;
       packaged = isPackage m;
-      currency = both (isPackage m) (notationIs (text "1") m);
+      currency = both (isPackage m) (valueIs priceNotation (text "1") m);
     }
 
 -- an "if" is met

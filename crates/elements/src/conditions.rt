@@ -1,10 +1,10 @@
 // Elements that are needed under a condition, and what is left out where it is not met.
 ghost use mathlib.Core.Path.{_≡_};
-ghost use Rattle.elements.specs.Conditions.{isPackage, notationIs, factsOf, met, kept};
+ghost use Rattle.elements.specs.Conditions.{isPackage, valueIs, factsOf, met, kept};
 ghost use Rattle.elements.specs.Table.{elementOf};
-use crate::codes::CLEARED;
-use crate::codes::PACKAGE_INDICATOR;
-use crate::codes::PRICE_NOTATION;
+use crate::CLEARED;
+use crate::PACKAGE_INDICATOR;
+use crate::PRICE_NOTATION;
 use crate::table::Condition;
 use crate::table::element_of;
 use message::element;
@@ -17,6 +17,13 @@ pub struct Facts {
     pub currency: bool,
 }
 
+// What a check is handed that asks for no facts.
+pub const NO_FACTS: Facts = Facts {
+    uncleared: false,
+    packaged: false,
+    currency: false,
+};
+
 // Whether the package indicator is true.
 fn is_package(m: &[u8]) -> bool
     ensures { λ r. ⌜ r ≡ isPackage (now (m .entry)) ⌝ }
@@ -24,18 +31,18 @@ fn is_package(m: &[u8]) -> bool
     values::is_true(element(m, PACKAGE_INDICATOR))
 }
 
-// Whether the price notation is a code.
-pub fn notation_is(m: &[u8], code: &[u8]) -> bool
-    ensures { λ r. ⌜ r ≡ notationIs (now (code .entry)) (now (m .entry)) ⌝ }
+// Whether the value of an element is this one.
+pub fn value_is(m: &[u8], code: u16, v: &[u8]) -> bool
+    ensures { λ r. ⌜ r ≡ valueIs code (now (v .entry)) (now (m .entry)) ⌝ }
 {
-    same(element(m, PRICE_NOTATION), code)
+    same(element(m, code), v)
 }
 
 // What the conditions ask of a message.
 pub fn facts_of(m: &[u8]) -> Facts
     ensures { λ r. ⌜ r ≡ factsOf (now (m .entry)) ⌝ }
 {
-    let uncleared = same(element(m, CLEARED), b"N");
+    let uncleared = value_is(m, CLEARED, b"N");
     if !is_package(m) {
         return Facts {
             uncleared,
@@ -43,7 +50,7 @@ pub fn facts_of(m: &[u8]) -> Facts
             currency: false,
         };
     }
-    let currency = notation_is(m, b"1");
+    let currency = value_is(m, PRICE_NOTATION, b"1");
     Facts {
         uncleared,
         packaged: true,

@@ -1,39 +1,60 @@
 // The elements of a message: document 01, 'Elements', the table with a row for each code, and what is read off it: the messages that take and need an
 // element, its form, and the conditions.
-mod codes;
 mod conditions;
 mod forms;
 mod messages;
 mod table;
 
-pub use codes::ASSET_CLASS;
-pub use codes::BLOCK_ELECTION;
-pub use codes::CLEARED;
-pub use codes::EFFECTIVE_DATE;
-pub use codes::EVENT_TIME;
-pub use codes::EVENT_TYPE;
-pub use codes::EXECUTION_TIME;
-pub use codes::EXPIRATION_DATE;
-pub use codes::LARGE_NOTIONAL_ELECTION;
-pub use codes::NON_STANDARDIZED_TERM;
-pub use codes::NOTIONAL_AMOUNT;
-pub use codes::NOTIONAL_CURRENCY;
-pub use codes::PACKAGE_INDICATOR;
-pub use codes::PACKAGE_PRICE;
-pub use codes::PRICE_CURRENCY;
-pub use codes::PRICE_NOTATION;
-pub use codes::REPORTING_TIME;
-pub use codes::SETTLEMENT_DATE;
-pub use codes::SETTLEMENT_LOCATION;
-pub use codes::UTI;
 pub use conditions::Facts;
+pub use conditions::NO_FACTS;
 pub use conditions::facts_of;
 pub use conditions::is_due;
 pub use conditions::kept;
-pub use conditions::notation_is;
+pub use conditions::value_is;
 pub use forms::has_form;
 pub use messages::has_layout;
 pub use messages::is_needed;
 pub use messages::is_taken;
 pub use messages::taken_up_to;
 pub use table::LAST_CODE;
+
+// The codes that a rule or the tape line speaks of by name, as specs/Codes.antt has them.
+pub const UTI: u16 = 1;
+
+pub const EVENT_TYPE: u16 = 3;
+
+pub const EVENT_TIME: u16 = 4;
+
+pub const REPORTING_TIME: u16 = 5;
+
+pub const EXECUTION_TIME: u16 = 6;
+
+pub const EFFECTIVE_DATE: u16 = 7;
+
+pub const EXPIRATION_DATE: u16 = 8;
+
+pub const SETTLEMENT_DATE: u16 = 9;
+
+pub const CLEARED: u16 = 10;
+
+pub const NON_STANDARDIZED_TERM: u16 = 11;
+
+pub const BLOCK_ELECTION: u16 = 12;
+
+pub const LARGE_NOTIONAL_ELECTION: u16 = 13;
+
+pub const PACKAGE_INDICATOR: u16 = 15;
+
+pub const PACKAGE_PRICE: u16 = 17;
+
+pub const PRICE_NOTATION: u16 = 18;
+
+pub const PRICE_CURRENCY: u16 = 19;
+
+pub const NOTIONAL_AMOUNT: u16 = 20;
+
+pub const NOTIONAL_CURRENCY: u16 = 21;
+
+pub const SETTLEMENT_LOCATION: u16 = 22;
+
+pub const ASSET_CLASS: u16 = 25;

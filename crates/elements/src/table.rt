@@ -62,12 +62,12 @@ pub struct Element {
 pub const LAST_CODE: usize = 25;
 
 // Full messages take each code up to the first, other ones up to the second.
-pub const LAST_FULL: usize = 25;
+pub const LAST_FULL: usize = LAST_CODE;
 
 pub const LAST_SHORT: usize = 5;
 
 // How many codes the table has.
-pub const MOST_ENTRIES: usize = 25;
+pub const MOST_ENTRIES: usize = LAST_CODE;
 
 // A row, in the order of the columns.
 fn row(

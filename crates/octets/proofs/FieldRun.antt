@@ -39,10 +39,14 @@ module _ (at : ℕ) (f : FieldText) (size : length (f .1) ≡ f .0) (d : Bytes) 
   pub last-exact : {e : Bytes} → e ≡ splice d at (f .1) → e ≡ written at (f ∷ []) d
   last-exact e = last-written at f d (e ∙ exact-text)
 
-pub written-append : (at : ℕ) (fs gs : List FieldText) (d : Bytes) → written at (fs ++ gs) d ≡ written (at + sizeOf fs) gs (written at fs d)
+written-append : (at : ℕ) (fs gs : List FieldText) (d : Bytes) → written at (fs ++ gs) d ≡ written (at + sizeOf fs) gs (written at fs d)
 unfolding written
 written-append at [] gs d = rw add-zero
 written-append at (f ∷ fs) gs d = written-append (at + f .0) fs gs _ ∙ rw add-assoc
+
+-- a group of fields, then the others
+pub then-group : (at : ℕ) (fs gs : List FieldText) (d : Bytes) {e last : Bytes} → e ≡ written at fs d → last ≡ written (at + sizeOf fs) gs e → last ≡ written at (fs ++ gs) d
+then-group at fs gs d e l = l ∙ ap (written (at + sizeOf fs) gs) e ∙ sym (written-append at fs gs d)
 
 -- ---- the bytes in a row
 

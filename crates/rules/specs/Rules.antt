@@ -17,9 +17,9 @@ use Rattle.actions.specs.declared.Checked.the-variants as checked
 use Rattle.actions.specs.Actions.{actionCode, actionOf, isFull}
 use Rattle.elements.specs.Messages.{hasLayout, takes, needs}
 use Rattle.actions.specs.Matrix.{pairAllowed}
-use Rattle.elements.specs.Codes.{eventType, reportingTime, executionTime, effectiveDate, expirationDate, settlementDate, packagePrice}
+use Rattle.elements.specs.Codes.{eventType, reportingTime, executionTime, effectiveDate, expirationDate, settlementDate, packagePrice, priceNotation}
 use Rattle.elements.specs.Forms.{hasForm}
-use Rattle.elements.specs.Conditions.{isPackage, notationIs, factsOf, isDue}
+use Rattle.elements.specs.Conditions.{isPackage, valueIs, factsOf, isDue}
 use Rattle.elements.specs.declared.conditions.Facts.{Facts}
 use Rattle.rules.specs.Verdicts.{layoutWrong, noAction, neededMissing, notTaken, formBroken, notPair, dueMissing, priceLong, orderWrong}
 use Rattle.rules.specs.Findings.{Finding, passed, broken, lowest, Rule, test, naming, firstBroken, fromRule}
@@ -69,7 +69,7 @@ unfoldable pub longPrice : Bytes → Bool
 longPrice v = either (ltb notationThreeDigits (length (wholeOf v) + length (decimalsOf v))) (ltb notationThreeDecimals (length (decimalsOf v)))
 
 unfoldable pub priceTooLong : Bytes → Bool
-priceTooLong m = both (isPackage m) (both (notationIs (text "3") m) (longPrice (unsignedOf (value packagePrice m))))
+priceTooLong m = both (isPackage m) (both (valueIs priceNotation (text "3") m) (longPrice (unsignedOf (value packagePrice m))))
 
 -- dates and times of a full message are out of order (13)
 abbrev pub elementBefore : Bytes → ℕ → ℕ → Bool

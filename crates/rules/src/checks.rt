@@ -15,7 +15,9 @@ use elements::EXECUTION_TIME;
 use elements::EXPIRATION_DATE;
 use elements::Facts;
 use elements::LAST_CODE;
+use elements::NO_FACTS;
 use elements::PACKAGE_PRICE;
+use elements::PRICE_NOTATION;
 use elements::REPORTING_TIME;
 use elements::SETTLEMENT_DATE;
 use message::element;
@@ -32,13 +34,6 @@ pub enum Check {
     Formed,
     Due,
 }
-
-// What a check is handed that asks for no facts.
-pub const NO_FACTS: Facts = Facts {
-    uncleared: false,
-    packaged: false,
-    currency: false,
-};
 
 // The most digits of a price with notation 3, in all and after the point.
 const NOTATION_THREE_DIGITS: usize = 11;
@@ -144,7 +139,7 @@ pub fn is_price_too_long(m: &[u8], facts: Facts) -> bool
     if !facts.packaged {
         return false;
     }
-    if !elements::notation_is(m, b"3") {
+    if !elements::value_is(m, PRICE_NOTATION, b"3") {
         return false;
     }
     is_long_price(numbers::unsigned_of(element(m, PACKAGE_PRICE)))

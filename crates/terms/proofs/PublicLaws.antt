@@ -7,7 +7,7 @@ use Rattle.octets.specs.Bytes.{Bytes}
 use Rattle.octets.specs.Choice.{choose}
 use Rattle.message.specs.Values.{value}
 use Rattle.elements.specs.Codes.{executionTime, effectiveDate, expirationDate, cleared, nonStandardizedTerm, blockElection, largeNotionalElection, packageIndicator, packagePrice, priceNotation, priceCurrency, notionalAmount, notionalCurrency, settlementLocation, assetClass}
-use Rattle.elements.specs.Conditions.{isPackage, notationIs, factsOf, met, kept}
+use Rattle.elements.specs.Conditions.{isPackage, valueIs, factsOf, met, kept}
 use Rattle.elements.specs.Table.{elementOf}
 use Rattle.notional.specs.Amount.{amount}
 use Rattle.notional.specs.Masking.{over, shown}
@@ -17,7 +17,7 @@ use Rattle.terms.specs.Public.{isPublicTerm, Agree}
 module _ (m₁ m₂ : Bytes) (same : Agree m₁ m₂) where
   -- the conditions are about public elements
   facts-same : factsOf m₁ ≡ factsOf m₂
-  unfolding factsOf isPackage notationIs elementOf isPublicTerm
+  unfolding factsOf isPackage valueIs elementOf isPublicTerm
   facts-same = rw (same cleared refl, same packageIndicator refl, same priceNotation refl)
 
   kept-same : (code : ℕ) → isPublicTerm code ≡ true → kept code m₁ ≡ kept code m₂

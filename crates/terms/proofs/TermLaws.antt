@@ -1,8 +1,8 @@
 -- Laws of specs/Terms.antt. Assumes nothing.
 use Prim.Native.Nat.{ℕ, _+_, _^_, _<_, _≤_}
 use mathlib.Core.Bool.{Bool}
-use mathlib.Core.Path.{_≡_, sym, ap, _∙_}
-use mathlib.Core.List.{[], _∷_, _++_}
+use mathlib.Core.Path.{_≡_}
+use mathlib.Core.List.{[], _∷_}
 use lib.ListN.{length, drop-of-length-le}
 use native.Mathlib.Omega.{arith}
 use borrow.Author.Tests.{eq-eqb, ne-eqb}
@@ -16,8 +16,8 @@ use Rattle.price.specs.Price.{shownPrice}
 use Rattle.octets.specs.Part.{splice}
 use Rattle.octets.specs.Field.{field}
 use Rattle.octets.specs.Fields.{FieldText, written, Placed}
-use Rattle.terms.specs.Terms.{notionalSize, shownTruth, priceText, dateFields, truthFields, priceFields, notionalFields, termFields, termsOf, nonStandardizedAt, priceAt, classAt, termsSize}
-use Rattle.octets.proofs.FieldRun.{then-written, last-written, length-bytes, written-append, all-written, field-placed}
+use Rattle.terms.specs.Terms.{notionalSize, shownTruth, priceText, termFields, termsOf, termsSize}
+use Rattle.octets.proofs.FieldRun.{then-written, last-written, length-bytes, all-written, field-placed}
 
 -- ---- what is shown of a value
 
@@ -65,13 +65,7 @@ pub four-written : (at : ℕ) (f₁ f₂ f₃ f₄ : FieldText) (d : Bytes) {d�
     → last ≡ written at (f₁ ∷ f₂ ∷ f₃ ∷ f₄ ∷ []) d
 four-written at f₁ f₂ f₃ f₄ d e₁ e₂ e₃ e₄ = then-written _ _ _ _ e₁ (then-written _ _ _ _ e₂ (then-written _ _ _ _ e₃ (last-written _ _ _ e₄)))
 
--- the four groups, written one after the other
-pub groups-written : (cap : ℕ) (m d : Bytes) {d₁ d₂ d₃ last : Bytes} → length d ≡ termsSize → d₁ ≡ written 0 (dateFields m) d → d₂ ≡ written nonStandardizedAt (truthFields m) d₁ → d₃ ≡ written priceAt (priceFields m) d₂ → last ≡ written classAt (notionalFields cap m) d₃ → last ≡ termsOf cap m
+-- written field by field, the terms are theirs
+pub terms-written : (cap : ℕ) (m d : Bytes) {last : Bytes} → length d ≡ termsSize → last ≡ written 0 (termFields cap m) d → last ≡ termsOf cap m
 unfolding termsOf
-groups-written cap m d size e₁ e₂ e₃ e₄ =
-    all-written (termFields cap m) d size
-    (e₄
-    ∙ ap (written classAt (notionalFields cap m)) (e₃ ∙ ap (written priceAt (priceFields m)) (e₂ ∙ ap (written nonStandardizedAt (truthFields m)) e₁))
-    ∙ sym (written-append priceAt (priceFields m) (notionalFields cap m) _)
-    ∙ sym (written-append nonStandardizedAt (truthFields m) (priceFields m ++ notionalFields cap m) _)
-    ∙ sym (written-append 0 (dateFields m) (truthFields m ++ (priceFields m ++ notionalFields cap m)) d))
+terms-written cap m d size run = all-written (termFields cap m) d size run

@@ -68,13 +68,20 @@ truthFields m =
     ∷ (markSize, shownTruth (kept packageIndicator m))
     ∷ []
 
+-- a price, its notation, its currency
+abbrev pub quoteFields : ℕ → ℕ → ℕ → Bytes → List FieldText
+quoteFields price notation currency m =
+    (priceSize, priceText (kept price m))
+    ∷ (markSize, kept notation m)
+    ∷ (currencySize, kept currency m)
+    ∷ []
+
+abbrev pub quoteSize : ℕ
+quoteSize = sizeOf (quoteFields 0 0 0 [])
+
 -- price, notation, price currency
 abbrev pub priceFields : Bytes → List FieldText
-priceFields m =
-    (priceSize, priceText (kept packagePrice m))
-    ∷ (markSize, kept priceNotation m)
-    ∷ (currencySize, kept priceCurrency m)
-    ∷ []
+priceFields m = quoteFields packagePrice priceNotation priceCurrency m
 
 -- asset class, notional, plus sign, notional currency, location
 abbrev pub notionalFields : ℕ → Bytes → List FieldText

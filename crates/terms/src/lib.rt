@@ -5,10 +5,9 @@ ghost use lib.ListN.{length};
 ghost use Rattle.octets.specs.Part.{splice};
 ghost use Rattle.octets.specs.Field.{field};
 ghost use Rattle.octets.specs.Fields.{written};
-ghost use Rattle.elements.specs.Codes.{packagePrice};
 ghost use Rattle.elements.specs.Conditions.{factsOf, kept};
 ghost use Rattle.notional.specs.Masking.{largestCap};
-ghost use Rattle.terms.specs.Terms.{markSize, shownTruth, priceText, plusText, dateFields, truthFields, priceFields, notionalFields, termsOf, nonStandardizedAt, priceAt, classAt, termsSize};
+ghost use Rattle.terms.specs.Terms.{markSize, shownTruth, priceText, plusText, dateFields, truthFields, quoteFields, quoteSize, notionalFields, termsOf, nonStandardizedAt, classAt, termsSize};
 use elements::ASSET_CLASS;
 use elements::BLOCK_ELECTION;
 use elements::CLEARED;
@@ -38,6 +37,9 @@ const MARK_SIZE: usize = 1;
 
 pub const PRICE_SIZE: usize = 20;
 
+// A price, its notation, its currency.
+const QUOTE_SIZE: usize = PRICE_SIZE + MARK_SIZE + CURRENCY_SIZE;
+
 const CLASS_SIZE: usize = 2;
 
 pub const NOTIONAL_SIZE: usize = 16;
@@ -61,11 +63,7 @@ const PACKAGE_AT: usize = LARGE_AT + MARK_SIZE;
 
 const PRICE_AT: usize = PACKAGE_AT + MARK_SIZE;
 
-const NOTATION_AT: usize = PRICE_AT + PRICE_SIZE;
-
-const PRICE_CURRENCY_AT: usize = NOTATION_AT + MARK_SIZE;
-
-const CLASS_AT: usize = PRICE_CURRENCY_AT + CURRENCY_SIZE;
+const CLASS_AT: usize = PRICE_AT + QUOTE_SIZE;
 
 const NOTIONAL_AT: usize = CLASS_AT + CLASS_SIZE;
 
@@ -105,13 +103,13 @@ fn truth_at(dst: &mut [u8], at: usize, m: &[u8], facts: Facts, code: u16)
     field_at(dst, at, MARK_SIZE, b"F");
 }
 
-// Writes the package price; spaces where it is missing or left out.
-fn package_price_at(dst: &mut [u8], at: usize, n: usize, m: &[u8], facts: Facts)
+// Writes a price; spaces where it is missing or left out.
+fn price_at(dst: &mut [u8], at: usize, n: usize, m: &[u8], facts: Facts, code: u16)
     requires { ⌜ at + n ≤ length (now dst) ⌝ }
     requires { ⌜ facts ≡ factsOf (now m) ⌝ }
-    ensures { λ _. ⌜ now (dst .exit) ≡ splice (now (dst .entry)) at (field n (priceText (kept packagePrice (now (m .entry))))) ⌝ }
+    ensures { λ _. ⌜ now (dst .exit) ≡ splice (now (dst .entry)) at (field n (priceText (kept code (now (m .entry))))) ⌝ }
 {
-    let v = elements::kept(m, facts, PACKAGE_PRICE);
+    let v = elements::kept(m, facts, code);
     if v.len() == 0 {
         field_at(dst, at, n, v);
         return;
@@ -155,21 +153,29 @@ fn write_truths(dst: &mut [u8], m: &[u8], facts: Facts)
     truth_at(dst, PACKAGE_AT, m, facts, PACKAGE_INDICATOR);
 }
 
-// Price, notation and price currency.
-fn write_package(dst: &mut [u8], m: &[u8], facts: Facts)
-    requires { ⌜ length (now dst) ≡ termsSize ⌝ }
+// A price, its notation and its currency.
+fn write_quote(
+    dst: &mut [u8],
+    at: usize,
+    m: &[u8],
+    facts: Facts,
+    price: u16,
+    notation: u16,
+    currency: u16,
+)
+    requires { ⌜ at + quoteSize ≤ length (now dst) ⌝ }
     requires { ⌜ facts ≡ factsOf (now m) ⌝ }
-    ensures { λ _. ⌜ now (dst .exit) ≡ written priceAt (priceFields (now (m .entry))) (now (dst .entry)) ⌝ }
+    ensures { λ _. ⌜ now (dst .exit) ≡ written at (quoteFields price notation currency (now (m .entry))) (now (dst .entry)) ⌝ }
 {
-    package_price_at(dst, PRICE_AT, PRICE_SIZE, m, facts);
-    text_at(dst, NOTATION_AT, MARK_SIZE, m, facts, PRICE_NOTATION);
+    price_at(dst, at, PRICE_SIZE, m, facts, price);
+    text_at(dst, at + PRICE_SIZE, MARK_SIZE, m, facts, notation);
     text_at(
         dst,
-        PRICE_CURRENCY_AT,
+        at + PRICE_SIZE + MARK_SIZE,
         CURRENCY_SIZE,
         m,
         facts,
-        PRICE_CURRENCY,
+        currency,
     );
 }
 
@@ -209,6 +215,14 @@ pub fn write_terms(dst: &mut [u8], m: &[u8], cap: u64)
     let facts = elements::facts_of(m);
     write_dates(dst, m, facts);
     write_truths(dst, m, facts);
-    write_package(dst, m, facts);
+    write_quote(
+        dst,
+        PRICE_AT,
+        m,
+        facts,
+        PACKAGE_PRICE,
+        PRICE_NOTATION,
+        PRICE_CURRENCY,
+    );
     write_notional(dst, m, facts, cap);
 }

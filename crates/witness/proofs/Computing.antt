@@ -15,7 +15,7 @@ use Rattle.message.specs.Layout.{u16At, entryRight, layoutRight}
 use Rattle.message.specs.Values.{entries as wholeEntries, entryFrom, endOf, valueAt, value, isThere}
 use Rattle.actions.specs.Actions.{actionOf}
 use Rattle.actions.specs.Matrix.{tick, pairAllowed}
-use Rattle.elements.specs.Conditions.{isPackage, notationIs, factsOf, isDue, kept}
+use Rattle.elements.specs.Conditions.{isPackage, valueIs, factsOf, isDue, kept}
 use Rattle.elements.specs.Forms.{hasForm}
 use Rattle.elements.specs.Messages.{known, howMany, mostEntries, hasLayout, takes, needs}
 use Rattle.elements.specs.Table.{elementOf}
@@ -48,7 +48,7 @@ unfolding isTrue isFalse isTruth isCleared isAllocation isNotation isAssetClass 
 forms = tt
 
 reading : Unit {0}
-unfolding u16At entryRight layoutRight wholeEntries entryFrom endOf valueAt value isThere actionOf elementOf known howMany mostEntries hasLayout takes needs tick pairAllowed isPackage notationIs factsOf isDue kept hasForm
+unfolding u16At entryRight layoutRight wholeEntries entryFrom endOf valueAt value isThere actionOf elementOf known howMany mostEntries hasLayout takes needs tick pairAllowed isPackage valueIs factsOf isDue kept hasForm
 reading = tt
 
 masking : Unit {0}

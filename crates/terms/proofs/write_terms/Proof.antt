@@ -1,5 +1,6 @@
 -- `terms::write_terms` meets its contract. Assumes nothing.
-use Rattle.terms.proofs.TermLaws.{groups-written}
+use Rattle.octets.proofs.FieldRun.{then-group}
+use Rattle.terms.proofs.TermLaws.{terms-written}
 use borrow.Author.Needs.{needs}
 use Rattle.terms.proofs.write_terms.Statement.{statement}
 use Rattle.terms.proofs.write_terms.Tie as tie
@@ -9,7 +10,12 @@ returns c =
     let third = c .before .before .before .before in
     let second = third .before .before .before .before in
     let first = second .before .before .before .before in
-    groups-written _ _ _ (search needs) (first .before .before .write-dates .ensures) (second .before .before .write-truths .ensures) (third .before .before .write-package .ensures) (c .before .before .write-notional .ensures)
+    let start = first .before .before .before .before .before .before .before in
+    terms-written _ _ _ (start .pre .0)
+    (then-group _ _ _ _ (first .before .before .write-dates .ensures)
+    (then-group _ _ _ _ (second .before .before .write-truths .ensures)
+    (then-group _ _ _ _ (third .before .before .write-quote .ensures)
+    (c .before .before .write-notional .ensures))))
 
 pub write-terms-spec : {M : Type 1} → statement M
 write-terms-spec =

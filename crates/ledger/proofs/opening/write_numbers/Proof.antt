@@ -1,8 +1,7 @@
 -- `ledger::opening::write_numbers` meets its contract. Assumes nothing.
 use Rattle.octets.proofs.NumberLaws.{length-toLe}
-use Rattle.octets.proofs.FieldRun.{then-exact, last-exact, written-append}
-use Rattle.ledger.specs.Layout.{u32, u64, capsAt}
-use Rattle.ledger.specs.Header.{capFields}
+use Rattle.octets.proofs.FieldRun.{then-exact, last-exact, then-group}
+use Rattle.ledger.specs.Layout.{u32, u64}
 use Rattle.ledger.proofs.NewHeader.{header-written}
 use borrow.Author.Needs.{needs}
 use Rattle.ledger.proofs.opening.write_numbers.Statement.{statement}
@@ -21,7 +20,7 @@ returns c =
     (then-exact _ _ (length-toLe u32 _) _ _ (first .write-at .ensures)
     (then-exact _ _ (length-toLe u32 _) _ _ (second .write-at2 .ensures)
     (then-exact _ _ (length-toLe u64 _) _ _ (third .write-at3 .ensures)
-    (rw (written-append capsAt (capFields (start .args .caps)), ← (fourth .write-caps .ensures))
+    (then-group _ _ _ _ (fourth .write-caps .ensures)
     (then-exact _ _ (length-toLe u32 _) _ _ (fifth .write-at4 .ensures)
     (last-exact _ _ (length-toLe u32 _) _ (sixth .write-at5 .ensures)))))))
 

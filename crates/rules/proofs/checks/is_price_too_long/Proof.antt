@@ -3,8 +3,9 @@ use mathlib.Core.Path.{_≡_, sym, ap, _∙_}
 use borrow.Author.Tests.{not-true, not-false}
 use Rattle.octets.specs.Text.{text}
 use denote.Ref.{now}
+use Rattle.elements.specs.Codes.{priceNotation}
 use Rattle.elements.specs.declared.conditions.Facts.{Facts}
-use Rattle.elements.specs.Conditions.{isPackage, notationIs, factsOf}
+use Rattle.elements.specs.Conditions.{isPackage, valueIs, factsOf}
 use Rattle.numbers.specs.Numbers.{unsignedOf}
 use Rattle.rules.specs.Rules.{longPrice, priceTooLong}
 use borrow.Author.Needs.{needs}
@@ -16,9 +17,9 @@ packaged : (c : tie.Start) → c .args .facts .packaged ≡ isPackage (now (c .a
 unfolding factsOf
 packaged c = ap (λ (f : Facts). f .packaged) (c .pre)
 
-told : (c : tie.After-notation-is) → c .notation-is .result ≡ notationIs (text "3") (now (c .before .before .before .before .before .args .m))
+told : (c : tie.After-value-is) → c .value-is .result ≡ valueIs priceNotation (text "3") (now (c .before .before .before .before .before .args .m))
 unfolding text
-told c = c .notation-is .ensures
+told c = c .value-is .ensures
 
 returns : tie.Need-returns
 unfolding priceTooLong

@@ -1,4 +1,4 @@
--- `terms::package_price_at` meets its contract. Assumes nothing.
+-- `terms::price_at` meets its contract. Assumes nothing.
 use mathlib.Core.Path.{ap, _∙_}
 use denote.Ref.{now}
 use Rattle.octets.specs.Part.{splice}
@@ -6,8 +6,8 @@ use Rattle.octets.specs.Field.{field}
 use Rattle.terms.specs.Terms.{priceText}
 use Rattle.terms.proofs.TermLaws.{price-none, price-some}
 use borrow.Author.Needs.{needs}
-use Rattle.terms.proofs.package_price_at.Statement.{statement}
-use Rattle.terms.proofs.package_price_at.Tie as tie
+use Rattle.terms.proofs.price_at.Statement.{statement}
+use Rattle.terms.proofs.price_at.Tie as tie
 
 returns : tie.Need-returns
 returns c =
@@ -21,8 +21,8 @@ returns-2 c =
     let v = c .before .before .before .before .before .kept in
     c .before .before .price-at .ensures ∙ ap (λ t. splice (now (a .dst)) (a .at) (field (a .n) t)) (price-some _ (c .before .before .before .before .if1 .left) ∙ ap priceText (v .ensures))
 
-pub package-price-at-spec : {M : Type 1} → statement M
-package-price-at-spec =
+pub price-at-spec : {M : Type 1} → statement M
+price-at-spec =
     tie.close
     (tie.spec
     (λ c κs. search needs)
