@@ -2,8 +2,9 @@
 
 use crate::forms::{
     is_allocation, is_amount, is_asset_class, is_capitals, is_cleared, is_date, is_lei,
-    is_notation, is_package_identifier, is_price, is_time, is_truth, is_uti,
+    is_notation, is_package_identifier, is_price, is_time, is_true, is_truth, is_uti,
 };
+use crate::message::Values;
 
 /// Codes run from 1 to this.
 pub const HIGHEST_CODE: u16 = 25;
@@ -54,6 +55,31 @@ pub fn needed(code: u16) -> Needed {
         NON_STANDARDIZED | PACKAGE_IDENTIFIER | PRICE | NOTATION | PRICE_CURRENCY => Needed::If,
         LOCATION => Needed::Optional,
         _ => Needed::Full,
+    }
+}
+
+/// "if Cleared is N": the condition of code 11.
+pub fn is_not_cleared(values: &Values) -> bool {
+    values.get(CLEARED) == Some(b"N")
+}
+
+/// "if 15 is true": the condition of codes 16, 17 and 18.
+pub fn is_package(values: &Values) -> bool {
+    values.get(PACKAGE).is_some_and(is_true)
+}
+
+/// "if 15 is true and 18 is 1": the condition of code 19.
+pub fn has_price_currency(values: &Values) -> bool {
+    is_package(values) && values.get(NOTATION) == Some(b"1")
+}
+
+/// Column "Needed", the "if" entries: the condition of a code is met.
+pub fn is_due(code: u16, values: &Values) -> bool {
+    match code {
+        NON_STANDARDIZED => is_not_cleared(values),
+        PACKAGE_IDENTIFIER | PRICE | NOTATION => is_package(values),
+        PRICE_CURRENCY => has_price_currency(values),
+        _ => false,
     }
 }
 

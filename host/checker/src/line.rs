@@ -2,28 +2,14 @@
 
 use crate::amounts::masked_amount;
 use crate::elements::{
-    ASSET_CLASS, BLOCK, CLEARED, EFFECTIVE, EXECUTION_TIME, EXPIRATION, LARGE, LOCATION,
-    NON_STANDARDIZED, NOTATION, NOTIONAL, NOTIONAL_CURRENCY, PACKAGE, PRICE, PRICE_CURRENCY,
+    has_price_currency, is_not_cleared, is_package, ASSET_CLASS, BLOCK, CLEARED, EFFECTIVE,
+    EXECUTION_TIME, EXPIRATION, LARGE, LOCATION, NON_STANDARDIZED, NOTATION, NOTIONAL,
+    NOTIONAL_CURRENCY, PACKAGE, PRICE, PRICE_CURRENCY,
 };
 use crate::forms::{asset_class_place, is_true};
 use crate::message::Values;
 use crate::price::shown;
 use crate::sizes::{self, line, TERMS};
-
-/// "if Cleared is N": the condition of code 11.
-pub fn is_not_cleared(values: &Values) -> bool {
-    values.get(CLEARED) == Some(b"N")
-}
-
-/// "if 15 is true": the condition of codes 16, 17 and 18.
-pub fn is_package(values: &Values) -> bool {
-    values.get(PACKAGE).is_some_and(is_true)
-}
-
-/// "if 15 is true and 18 is 1": the condition of code 19.
-pub fn has_price_currency(values: &Values) -> bool {
-    is_package(values) && values.get(NOTATION) == Some(b"1")
-}
 
 /// What a full message's elements and the caps put into a line from the
 /// execution time up to the newline. The message has passed rules 5 to 12.

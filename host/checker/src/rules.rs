@@ -3,15 +3,13 @@
 
 use crate::amounts::is_cap;
 use crate::elements::{
-    has_form, needed, Action, Needed, ACTION, EFFECTIVE, EVENT, EXECUTION_TIME, EXPIRATION,
-    HIGHEST_CODE, HIGHEST_CODE_NOT_FULL, NON_STANDARDIZED, NOTATION, PACKAGE_IDENTIFIER, PRICE,
-    PRICE_CURRENCY, REPORTING_TIME, SETTLEMENT,
+    has_form, is_due, is_package, needed, Action, Needed, ACTION, EFFECTIVE, EVENT, EXECUTION_TIME,
+    EXPIRATION, HIGHEST_CODE, HIGHEST_CODE_NOT_FULL, NOTATION, PRICE, REPORTING_TIME, SETTLEMENT,
 };
 use crate::ledger::{
     is_long_enough, read_header, Header, Row, CLOSED, ERRORED, LAST_NEXT_IDENTIFIER, LIVE, PORTED,
     UNKNOWN,
 };
-use crate::line::{has_price_currency, is_not_cleared, is_package};
 use crate::matrix::is_pair;
 use crate::message::Values;
 use crate::price::price_too_long;
@@ -130,13 +128,7 @@ pub fn rule_10_pair(values: &Values) -> Judged<()> {
 ///     code 10 nor 15 after rule 8, so no "if" is met.)
 pub fn rule_11_conditional(values: &Values) -> Judged<()> {
     refuse_lowest(11, |code| {
-        let condition = match code {
-            NON_STANDARDIZED => is_not_cleared(values),
-            PACKAGE_IDENTIFIER | PRICE | NOTATION => is_package(values),
-            PRICE_CURRENCY => has_price_currency(values),
-            _ => false,
-        };
-        condition && values.get(code).is_none()
+        is_due(code, values) && values.get(code).is_none()
     })
 }
 

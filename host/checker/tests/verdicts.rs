@@ -224,7 +224,7 @@ fn verdict_8_above_5() {
             m.insert(code, b"?".to_vec());
             book.refuse(&with(m.clone(), 4, "?"), 8, code as u8);
             // the lowest one is named
-            m.insert(25, b"IR".to_vec());
+            m.insert(HIGHEST_CODE, b"?".to_vec());
             book.refuse(&m, 8, code as u8);
         }
     }

@@ -3,15 +3,13 @@
 use crate::cycles::{next_message, Model};
 use crate::faults::{self, Case, Fault};
 use crate::garbage;
-use crate::layout;
+use crate::layout::{self, DAY_ROWS};
 use crate::message::{described, Message, LONGEST_MESSAGE};
 use crate::order;
 use crate::random::Random;
 use crate::sound;
 use crate::values;
 
-/// The rows that the day run opens.
-pub const ROWS: usize = 400;
 /// The caps that the day run opens with.
 const CAPS: [u64; 5] = [250_000_000; 5];
 /// The bytes of a length.
@@ -98,7 +96,7 @@ impl Feed {
         let mut faults = faults::all();
         faults.retain(|fault| order::from_to(5, 13).contains(&fault.verdict()));
         Feed {
-            model: Model::opened(layout::length_for(ROWS), CAPS),
+            model: Model::opened(layout::length_for(DAY_ROWS), CAPS),
             utis: values::utis(random, swaps),
             faults,
         }

@@ -12,6 +12,11 @@ pub const U32_SIZE: usize = 4;
 /// The bytes of a u64.
 pub const U64_SIZE: usize = 8;
 
+// The message.
+
+/// The highest element code.
+pub const HIGHEST_CODE: u8 = 25;
+
 // The tape line: the sizes of fields, and the fields one after the other.
 
 /// The digits of an identifier.
@@ -103,6 +108,8 @@ pub const ROW_SIZE: usize = TAIL_IN_ROW.end;
 pub const SHORTEST_LEDGER: usize = HEADER_SIZE + ROW_SIZE;
 /// The most rows that a ledger can have.
 pub const LARGEST_CAPACITY: usize = 100_000;
+/// The rows that the day run opens.
+pub const DAY_ROWS: usize = 400;
 /// The highest next identifier; no line takes it.
 pub const HIGHEST_NEXT: u64 = 1_000_000_000_000;
 

@@ -1,7 +1,7 @@
 //! Messages: elements by code, and their bytes.
 
-/// The highest element code.
-pub const HIGHEST_CODE: u8 = 25;
+pub use crate::layout::HIGHEST_CODE;
+
 /// The longest message.
 pub const LONGEST_MESSAGE: usize = 2_048;
 /// The bytes of the count.

@@ -3,7 +3,8 @@
 
 use checker::day::report;
 use compare::dayrun::{check, check_lines, from_file, from_pieces};
-use compare::days::{self, framed, new_swap, of_length, overlong, random_day, wild_day, ROWS};
+use compare::days::{self, framed, new_swap, of_length, overlong, random_day, wild_day};
+use compare::layout::DAY_ROWS;
 use compare::message::{Message, LONGEST_MESSAGE};
 use compare::order;
 use compare::random::Random;
@@ -138,17 +139,17 @@ fn overlong_messages() {
 fn a_swap_too_many_finds_no_row() {
     let mut day = Vec::new();
     let mut due = String::from("message verdict element record\n");
-    for swap in 1..=ROWS {
+    for swap in 1..=DAY_ROWS {
         day.extend(framed(&new_swap(swap)));
         due += &format!("{swap} 0 0 {swap}\n");
     }
-    let (more, last) = (ROWS + 1, ROWS + 2);
+    let (more, last) = (DAY_ROWS + 1, DAY_ROWS + 2);
     day.extend(framed(&new_swap(more)));
     due += &format!("{more} 17 0 0\n");
-    let end = format!("{due}end {more} {ROWS}\n");
+    let end = format!("{due}end {more} {DAY_ROWS}\n");
     check_file(&day, end.as_bytes(), "a swap too many");
     // A swap that has a row goes on.
-    let known = format!("1000000000SWAP{ROWS:010}");
+    let known = format!("1000000000SWAP{DAY_ROWS:010}");
     day.extend(framed(&plain_modi().with(1, known).encode()));
     let end = format!("{due}{last} 0 0 {more}\nend {last} {more}\n");
     check_file(&day, end.as_bytes(), "a swap too many and a MODI");

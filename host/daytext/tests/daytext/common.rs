@@ -1,5 +1,6 @@
 //! Short calls, messages laid out by hand, and random numbers.
 
+use daytext::names::{ELEMENTS, VERDICTS};
 use daytext::{Fault, Stop};
 
 /// The bytes of a text that must be right.
@@ -84,4 +85,16 @@ impl Random {
     pub fn bytes(&mut self, length: usize) -> Vec<u8> {
         (0..length).map(|_| self.byte()).collect()
     }
+}
+
+/// The first number that is no verdict, and what is said of it.
+pub fn no_verdict() -> (usize, String) {
+    let last = VERDICTS.len() - 1;
+    (last + 1, format!("the verdict is not one of 0 to {last}"))
+}
+
+/// The first number that is no element, and what is said of it.
+pub fn no_element() -> (usize, String) {
+    let last = ELEMENTS.len();
+    (last + 1, format!("the element is not one of 0 to {last}"))
 }

@@ -1,7 +1,7 @@
 //! Reports that do not belong to their day, or are broken: the line, the
 //! sentence, and what was explained before.
 
-use crate::common::{day, fault, message, Random};
+use crate::common::{day, fault, message, no_element, no_verdict, Random};
 use daytext::Fault;
 
 /// Two messages, of which the second is longer than 2,048 bytes.
@@ -108,7 +108,7 @@ fn lines_behind_the_last() {
 }
 
 /// Lines in the place of the second message, and what is wrong with them.
-const BROKEN: [(&str, &str); 14] = [
+const BROKEN: [(&str, &str); 12] = [
     ("", "`` is neither four numbers nor `end` or `cut` with two"),
     (
         "2 5 0",
@@ -135,8 +135,6 @@ const BROKEN: [(&str, &str); 14] = [
         "`99999999999999999999` is not a number",
     ),
     ("end 2 x", "`x` is not a number"),
-    ("2 19 0 0", "the verdict is not one of 0 to 18"),
-    ("2 9 26 0", "the element is not one of 0 to 25"),
     (
         "2 0 0 1000000000000",
         "the identifier has more than 12 digits",
@@ -154,6 +152,18 @@ fn broken_lines() {
             FIRST,
         );
     }
+}
+
+#[test]
+fn numbers_outside_the_tables() {
+    let stops_at = |line: &str, sentence: &str| {
+        let report = format!("1 0 0 1\n{line}\nend 2 1\n");
+        stops(&two(), &report, 3, sentence, FIRST);
+    };
+    let (verdict, sentence) = no_verdict();
+    stops_at(&format!("2 {verdict} 0 0"), &sentence);
+    let (element, sentence) = no_element();
+    stops_at(&format!("2 9 {element} 0"), &sentence);
 }
 
 #[test]

@@ -85,10 +85,8 @@ fn limits_are_those_of_the_header() {
 #[test]
 fn numbers_outside_the_tables() {
     assert_eq!(verdict(0), Some("accepted"));
-    assert_eq!(verdict(18), Some("identifiers spent"));
-    assert_eq!(verdict(19), None);
+    assert_eq!(verdict(VERDICTS.len() as u64), None);
     assert_eq!(element(0), None);
     assert_eq!(element(1), Some("UTI"));
-    assert_eq!(element(25), Some("asset class"));
-    assert_eq!(element(26), None);
+    assert_eq!(element(ELEMENTS.len() as u64 + 1), None);
 }

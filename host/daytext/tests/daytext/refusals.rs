@@ -1,6 +1,6 @@
 //! Texts that break the form: the line, and the sentence.
 
-use crate::common::{encoded, refused, Random};
+use crate::common::{encoded, no_element, no_verdict, refused, Random};
 use daytext::{Fault, Stop};
 
 #[track_caller]
@@ -251,13 +251,11 @@ fn dues() {
 
 #[test]
 fn numbers_of_dues() {
-    is_refused("1 A\ndue 19 0 0\n", 2, "the verdict is not one of 0 to 18");
-    is_refused(
-        "1 A\ndue 99999999999999999999 0 0\n",
-        2,
-        "the verdict is not one of 0 to 18",
-    );
-    is_refused("1 A\ndue 9 26 0\n", 2, "the element is not one of 0 to 25");
+    let (verdict, sentence) = no_verdict();
+    is_refused(&format!("1 A\ndue {verdict} 0 0\n"), 2, &sentence);
+    is_refused("1 A\ndue 99999999999999999999 0 0\n", 2, &sentence);
+    let (element, sentence) = no_element();
+    is_refused(&format!("1 A\ndue 9 {element} 0\n"), 2, &sentence);
     is_refused(
         "1 A\ndue 0 0 1000000000000\n",
         2,
@@ -265,9 +263,9 @@ fn numbers_of_dues() {
     );
     // Only the last counter is out of bounds.
     is_refused(
-        "repeat 26\n\n1 A\ndue 9 {n} 0\n\nagain\n",
+        &format!("repeat {element}\n\n1 A\ndue 9 {{n}} 0\n\nagain\n"),
         4,
-        "the element is not one of 0 to 25",
+        &sentence,
     );
 }
 
