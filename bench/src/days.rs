@@ -6,7 +6,8 @@ use crate::table;
 use crate::timing::{measure, Run};
 use crate::utis::Shape;
 use compare::dayrun::{program, Temporary};
-use compare::days::{framed, ROWS};
+use compare::days::framed;
+use compare::layout::DAY_ROWS;
 use sdr::LINE_SIZE;
 use std::path::{Path, PathBuf};
 use std::process::{Command, Stdio};
@@ -78,7 +79,7 @@ impl Day {
 /// The bytes of a mixed day that starts on an empty ledger. The checker keeps
 /// the ledger, so that later messages are about the swaps of earlier ones.
 fn mixed_day(messages: usize) -> Result<Vec<u8>, String> {
-    let mut ledger = Ledger::opened(ROWS);
+    let mut ledger = Ledger::opened(DAY_ROWS);
     let mut day = Mixed::about(&ledger, Shape::MixedLengths, PORTING);
     let mut bytes = Vec::new();
     for number in 1..=messages {
