@@ -1,5 +1,7 @@
 // Elements that are needed under a condition, and what is left out where it is not met.
 ghost use mathlib.Core.Path.{_≡_};
+ghost use Rattle.octets.specs.Part.{PartOf};
+ghost use Rattle.message.specs.Values.{offsetOf};
 ghost use Rattle.elements.specs.Conditions.{isPackage, valueIs, factsOf, met, kept};
 ghost use Rattle.elements.specs.Table.{elementOf};
 use crate::CLEARED;
@@ -32,7 +34,7 @@ fn is_package(m: &[u8]) -> bool
 }
 
 // Whether the value of an element is this one.
-pub fn value_is(m: &[u8], code: u16, v: &[u8]) -> bool
+pub fn value_is(m: &[u8], code: u8, v: &[u8]) -> bool
     ensures { λ r. ⌜ r ≡ valueIs code (now (v .entry)) (now (m .entry)) ⌝ }
 {
     same(element(m, code), v)
@@ -72,7 +74,7 @@ fn is_met(condition: Condition, facts: Facts) -> bool
 }
 
 // Whether the element is due under its condition, in a message with these facts.
-pub fn is_due(facts: Facts, code: u16) -> bool
+pub fn is_due(facts: Facts, code: u8) -> bool
     ensures { λ r. ⌜ r ≡ met (elementOf code .due) facts ⌝ }
 {
     let due = element_of(code).due;
@@ -80,9 +82,9 @@ pub fn is_due(facts: Facts, code: u16) -> bool
 }
 
 // The value of an element; nothing where its condition is not met.
-pub fn kept<'a>(m: &'a [u8], facts: Facts, code: u16) -> &'a [u8]
+pub fn kept<'a>(m: &'a [u8], facts: Facts, code: u8) -> &'a [u8]
     requires { ⌜ facts ≡ factsOf (now m) ⌝ }
-    ensures { λ r. ⌜ now r ≡ kept code (now (m .entry)) ⌝ }
+    ensures { λ r. ⌜ (now r ≡ kept code (now (m .entry))) × PartOf (m .entry) (offsetOf code (now (m .entry))) r ⌝ }
 {
     let shown = element_of(code).shown;
     if is_met(shown, facts) {

@@ -42,7 +42,7 @@ fn fits_form(form: Form, v: &[u8]) -> bool
 }
 
 // Whether a value has the form of the element with a code.
-pub fn has_form(code: u16, v: &[u8]) -> bool
+pub fn has_form(code: u8, v: &[u8]) -> bool
     ensures { λ r. ⌜ r ≡ hasForm code (now (v .entry)) ⌝ }
 {
     let form = element_of(code).form;

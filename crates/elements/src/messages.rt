@@ -14,7 +14,7 @@ use message::layout_right;
 pub fn has_layout(m: &[u8], longest: usize) -> bool
     ensures { λ r. ⌜ r ≡ hasLayout longest (now (m .entry)) ⌝ }
 {
-    let mut known = [true; LAST_CODE + 1];
+    let mut known = [true; LAST_CODE as usize + 1];
     known[0] = false;
     layout_right(m, longest, MOST_ENTRIES, &known)
 }
@@ -31,7 +31,7 @@ fn is_among(kinds: Kinds, a: Action) -> bool
 }
 
 // Whether a message of the action may have the element.
-pub fn is_taken(a: Action, code: u16) -> bool
+pub fn is_taken(a: Action, code: u8) -> bool
     ensures { λ r. ⌜ r ≡ takes a code ⌝ }
 {
     let taken = element_of(code).taken;
@@ -39,7 +39,7 @@ pub fn is_taken(a: Action, code: u16) -> bool
 }
 
 // Whether a message of the action needs the element, whatever else it has.
-pub fn is_needed(a: Action, code: u16) -> bool
+pub fn is_needed(a: Action, code: u8) -> bool
     ensures { λ r. ⌜ r ≡ needs a code ⌝ }
 {
     let needed = element_of(code).needed;
@@ -47,7 +47,7 @@ pub fn is_needed(a: Action, code: u16) -> bool
 }
 
 // A code up to which the action takes each one.
-pub fn taken_up_to(a: Action) -> usize
+pub fn taken_up_to(a: Action) -> u8
     ensures { λ r. ⌜ TakenUpTo a r ⌝ }
 {
     if actions::is_full(a) {

@@ -59,15 +59,15 @@ pub struct Element {
 }
 
 // The last code of the table.
-pub const LAST_CODE: usize = 25;
+pub const LAST_CODE: u8 = 25;
 
 // Full messages take each code up to the first, other ones up to the second.
-pub const LAST_FULL: usize = LAST_CODE;
+pub const LAST_FULL: u8 = LAST_CODE;
 
-pub const LAST_SHORT: usize = 5;
+pub const LAST_SHORT: u8 = 5;
 
 // How many codes the table has.
-pub const MOST_ENTRIES: usize = LAST_CODE;
+pub const MOST_ENTRIES: usize = LAST_CODE as usize;
 
 // A row, in the order of the columns.
 fn row(
@@ -91,7 +91,7 @@ fn row(
 }
 
 // The element with a code.
-pub fn element_of(code: u16) -> Element
+pub fn element_of(code: u8) -> Element
     ensures { λ r. ⌜ r ≡ elementOf code ⌝ }
 {
     match code {

@@ -62,7 +62,7 @@ fn previous_at(dst: &mut [u8], at: usize, a: Action, previous: u64)
 }
 
 // Writes the value of an element; spaces where it is missing.
-fn element_at(dst: &mut [u8], at: usize, n: usize, m: &[u8], code: u16)
+fn element_at(dst: &mut [u8], at: usize, n: usize, m: &[u8], code: u8)
     requires { ⌜ at + n ≤ length (now dst) ⌝ }
     ensures { λ _. ⌜ now (dst .exit) ≡ splice (now (dst .entry)) at (field n (value code (now (m .entry)))) ⌝ }
 {
@@ -76,7 +76,7 @@ fn write_fields(dst: &mut [u8], a: Action, identifier: u64, previous: u64, m: &[
 {
     digits_at(dst, DISSEMINATION_AT, IDENTIFIER_DIGITS, identifier);
     previous_at(dst, PREVIOUS_AT, a, previous);
-    element_at(dst, ACTION_AT, ACTION_SIZE, m, ACTION_CODE as u16);
+    element_at(dst, ACTION_AT, ACTION_SIZE, m, ACTION_CODE);
     element_at(dst, EVENT_AT, EVENT_SIZE, m, EVENT_TYPE);
     element_at(dst, TIME_AT, TIME_SIZE, m, EVENT_TIME);
     copy_at(dst, TERMS_START, terms);

@@ -26,6 +26,10 @@ endOf m k = choose (ltb (k + 1) (entries m)) (offsetAt m (k + 1)) (length m)
 unfoldable pub valueAt : Bytes → ℕ → Bytes
 valueAt m k = choose (ltb k (entries m)) (part m (offsetAt m k) (endOf m k - offsetAt m k)) []
 
+-- the offset of the element's own entry
+unfoldable pub offsetOf : ℕ → Bytes → ℕ
+offsetOf code m = offsetAt m (entryFrom m code 0)
+
 -- the value of the element with a code, nothing where the element is missing
 unfoldable pub value : ℕ → Bytes → Bytes
 value code m = valueAt m (entryFrom m code 0)

@@ -4,7 +4,7 @@ ghost use Prim.Native.Nat.{_+_, _-_, _*_, _<_, _≤_};
 ghost use lib.ListN.{length};
 ghost use Rattle.octets.specs.Part.{PartOf};
 ghost use Rattle.message.specs.Values.{entries, entryFrom, endOf, valueAt, isThere};
-ghost use Rattle.message.specs.Layout.{countSize, entrySize};
+ghost use Rattle.message.specs.Layout.{countSize, entrySize, offsetAt};
 ghost use Rattle.message.specs.Reading.{Laid, Reached, nextPlace, NoneAbove};
 use crate::layout::CODE;
 use crate::layout::COUNT;
@@ -28,7 +28,7 @@ pub fn entries_of(m: &[u8]) -> usize
 }
 
 // The first entry from `from` on with a code; where there is none the number of entries, or `from` if that is past it.
-pub fn entry_of(m: &[u8], code: u16, from: usize) -> usize
+pub fn entry_of(m: &[u8], code: u8, from: usize) -> usize
     ensures { λ r. ⌜ r ≡ entryFrom (now (m .entry)) code from ⌝ }
 {
     let n = entries_of(m);
@@ -58,7 +58,7 @@ fn end_of(m: &[u8], n: usize, k: usize) -> usize
 
 // The value of entry k: that part of the message itself, empty where there is no such entry.
 pub fn value_at<'a>(m: &'a [u8], k: usize) -> &'a [u8]
-    ensures { λ r. ⌜ (now r ≡ valueAt (now (m .entry)) k) × PartOf (m .entry) r ⌝ }
+    ensures { λ r. ⌜ (now r ≡ valueAt (now (m .entry)) k) × PartOf (m .entry) (offsetAt (now (m .entry)) k) r ⌝ }
 {
     let n = entries_of(m);
     if n <= k {
@@ -78,7 +78,7 @@ pub fn value_here<'a>(m: &'a [u8], n: usize, k: usize) -> &'a [u8]
     requires { ⌜ (n < 65536) × (entrySize * n ≤ length (now m) - countSize) ⌝ }
     requires { ⌜ Laid (now m) ⌝ }
     requires { ⌜ k < n ⌝ }
-    ensures { λ r. ⌜ now r ≡ valueAt (now (m .entry)) k ⌝ }
+    ensures { λ r. ⌜ (now r ≡ valueAt (now (m .entry)) k) × PartOf (m .entry) (offsetAt (now (m .entry)) k) r ⌝ }
 {
     let offset = u16_inside(m, COUNT + ENTRY * k + CODE);
     let end = end_of(m, n, k);
@@ -86,7 +86,7 @@ pub fn value_here<'a>(m: &'a [u8], n: usize, k: usize) -> &'a [u8]
 }
 
 // Whether an element is there, for a reader that has come to its code among the n entries.
-pub fn is_here(m: &[u8], n: usize, code: u16, at: usize) -> bool
+pub fn is_here(m: &[u8], n: usize, code: u8, at: usize) -> bool
     requires { ⌜ n ≡ entries (now m) ⌝ }
     requires { ⌜ (n < 65536) × (entrySize * n ≤ length (now m) - countSize) ⌝ }
     requires { ⌜ Laid (now m) ⌝ }

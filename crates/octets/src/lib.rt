@@ -24,7 +24,7 @@ pub fn byte_at(s: &[u8], i: usize) -> u8
 
 // The n bytes from `at` on, as far as there are any: a part of the slice itself.
 pub fn part_of<'a>(s: &'a [u8], at: usize, n: usize) -> &'a [u8]
-    ensures { λ r. ⌜ (now r ≡ part (now (s .entry)) at n) × PartOf (s .entry) r ⌝ }
+    ensures { λ r. ⌜ (now r ≡ part (now (s .entry)) at n) × PartOf (s .entry) at r ⌝ }
 {
     if s.len() < at {
         return &s[..0];

@@ -95,7 +95,7 @@ pub fn status(l: &[u8], uti: &[u8], largest: u32) -> Answer
         return refusal(LEDGER_WRONG, 0);
     };
     if !has_form(UTI, uti) {
-        return refusal(FORM_BROKEN, UTI as u8);
+        return refusal(FORM_BROKEN, UTI);
     }
     let swap = find_swap(l, header.rows as usize, uti);
     if has_wrong_row(header.next, swap) {

@@ -47,7 +47,7 @@ fn is_at_fault(
     facts: Facts,
     action: Action,
     check: Check,
-    code: u16,
+    code: u8,
     at: usize,
     here: bool,
 ) -> bool
@@ -94,12 +94,12 @@ pub fn lowest_fault(m: &[u8], facts: Facts, action: Action, check: Check) -> Che
     ensures { λ r. ⌜ r ≡ answerOf action (lowest (atFault check action (now (m .entry)))) ⌝ }
 {
     let n = entries_of(m);
-    let mut code: u16 = 1;
+    let mut code: u8 = 1;
     let mut at: usize = 0;
-    while code as usize <= LAST_CODE {
+    while code <= LAST_CODE {
         let here = is_here(m, n, code, at);
         if is_at_fault(m, n, facts, action, check, code, at, here) {
-            return Checked::Fault(code as u8);
+            return Checked::Fault(code);
         }
         at = next_place(at, here);
         code += 1;
@@ -113,7 +113,7 @@ pub fn lowest_not_taken(m: &[u8], action: Action) -> Checked
     requires { ⌜ Laid (now m) ⌝ }
     ensures { λ r. ⌜ r ≡ answerOf action (lowest (atFault Check.Taken action (now (m .entry)))) ⌝ }
 {
-    if last_code(m) <= elements::taken_up_to(action) {
+    if last_code(m) <= elements::taken_up_to(action) as usize {
         return Checked::Value(action);
     }
     lowest_fault(m, NO_FACTS, action, Check::Taken)
@@ -146,7 +146,7 @@ pub fn is_price_too_long(m: &[u8], facts: Facts) -> bool
 }
 
 // Whether the value of one element is before that of another.
-fn is_element_before(m: &[u8], a: u16, b: u16) -> bool
+fn is_element_before(m: &[u8], a: u8, b: u8) -> bool
     ensures { λ r. ⌜ r ≡ elementBefore (now (m .entry)) a b ⌝ }
 {
     dates::is_before(element(m, a), element(m, b))

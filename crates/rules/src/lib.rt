@@ -9,7 +9,7 @@ ghost use Rattle.message.specs.Reading.{Laid};
 ghost use Rattle.elements.specs.Conditions.{factsOf};
 ghost use Rattle.actions.specs.declared.Checked.the-variants.{Value};
 ghost use Rattle.rules.specs.Verdicts.{noAction, neededMissing, notTaken, formBroken, notPair, dueMissing, priceLong, orderWrong};
-ghost use Rattle.rules.specs.Rules.{actionIn, judged, judgedFrom, judgedBy};
+ghost use Rattle.rules.specs.Rules.{actionIn, verdict, judged, judgedFrom, judgedBy, verdictOf};
 use actions::ACTION_CODE;
 use actions::Action;
 use actions::Checked;
@@ -50,6 +50,7 @@ fn judged_by(verdict: u8, c: Checked) -> Judged
 
 // 5. The first rule that a message of at most `longest` bytes breaks, or its action.
 pub fn judge(m: &[u8], longest: usize) -> Judged
+    ensures { λ r. ⌜ verdictOf r ≡ verdict longest (now (m .entry)) ⌝ }
     ensures { λ r. ⌜ r ≡ judged longest (now (m .entry)) ⌝ }
 {
     if !elements::has_layout(m, longest) {
@@ -63,7 +64,7 @@ fn judge_action(m: &[u8]) -> Judged
     requires { ⌜ Laid (now m) ⌝ }
     ensures { λ r. ⌜ r ≡ judgedFrom noAction (actionIn (now (m .entry))) (now (m .entry)) ⌝ }
 {
-    let read = actions::read_action(element(m, ACTION_CODE as u16));
+    let read = actions::read_action(element(m, ACTION_CODE));
     let Checked::Value(action) = read else {
         return judged_by(NO_ACTION, read);
     };

@@ -77,7 +77,7 @@ const LOCATION_AT: usize = NOTIONAL_CURRENCY_AT + CURRENCY_SIZE;
 pub const SIZE: usize = LOCATION_AT + LOCATION_SIZE;
 
 // Writes the value of an element; spaces where it is missing or left out.
-fn text_at(dst: &mut [u8], at: usize, n: usize, m: &[u8], facts: Facts, code: u16)
+fn text_at(dst: &mut [u8], at: usize, n: usize, m: &[u8], facts: Facts, code: u8)
     requires { ⌜ at + n ≤ length (now dst) ⌝ }
     requires { ⌜ facts ≡ factsOf (now m) ⌝ }
     ensures { λ _. ⌜ now (dst .exit) ≡ splice (now (dst .entry)) at (field n (kept code (now (m .entry)))) ⌝ }
@@ -86,7 +86,7 @@ fn text_at(dst: &mut [u8], at: usize, n: usize, m: &[u8], facts: Facts, code: u1
 }
 
 // Writes T or F for a truth; a space where it is missing or left out.
-fn truth_at(dst: &mut [u8], at: usize, m: &[u8], facts: Facts, code: u16)
+fn truth_at(dst: &mut [u8], at: usize, m: &[u8], facts: Facts, code: u8)
     requires { ⌜ at + markSize ≤ length (now dst) ⌝ }
     requires { ⌜ facts ≡ factsOf (now m) ⌝ }
     ensures { λ _. ⌜ now (dst .exit) ≡ splice (now (dst .entry)) at (field markSize (shownTruth (kept code (now (m .entry))))) ⌝ }
@@ -104,7 +104,7 @@ fn truth_at(dst: &mut [u8], at: usize, m: &[u8], facts: Facts, code: u16)
 }
 
 // Writes a price; spaces where it is missing or left out.
-fn price_at(dst: &mut [u8], at: usize, n: usize, m: &[u8], facts: Facts, code: u16)
+fn price_at(dst: &mut [u8], at: usize, n: usize, m: &[u8], facts: Facts, code: u8)
     requires { ⌜ at + n ≤ length (now dst) ⌝ }
     requires { ⌜ facts ≡ factsOf (now m) ⌝ }
     ensures { λ _. ⌜ now (dst .exit) ≡ splice (now (dst .entry)) at (field n (priceText (kept code (now (m .entry))))) ⌝ }
@@ -159,9 +159,9 @@ fn write_quote(
     at: usize,
     m: &[u8],
     facts: Facts,
-    price: u16,
-    notation: u16,
-    currency: u16,
+    price: u8,
+    notation: u8,
+    currency: u8,
 )
     requires { ⌜ at + quoteSize ≤ length (now dst) ⌝ }
     requires { ⌜ facts ≡ factsOf (now m) ⌝ }

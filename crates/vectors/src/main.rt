@@ -18,8 +18,8 @@ const LINE: usize = 5000;
 
 const LINES: usize = 1_000_000;
 
-// The numbers that fit 16 bits, as a code does.
-const CODES: u64 = 65_536;
+// The numbers that fit a byte, as an element's code does in the core.
+const CODES: u64 = 256;
 
 fn main() {
     let mut left: usize = LINES;
@@ -143,6 +143,6 @@ fn answer_form(form: usize, rest: &[u8]) {
 fn answer_element(rest: &[u8]) {
     let mut bytes = [0u8; hex::LONGEST];
     let size = fields::bytes_at(rest, 1, &mut bytes);
-    let code = (fields::number_at(rest, 0) % CODES) as u16;
+    let code = (fields::number_at(rest, 0) % CODES) as u8;
     hex::say_hex(message::element(part_of(&bytes, 0, size), code));
 }

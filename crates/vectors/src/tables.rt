@@ -32,8 +32,8 @@ pub fn answer(place: usize, rest: &[u8]) {
 fn holds(place: usize, a: actions::Action, asked: &[u8]) -> bool {
     match place {
         0 => actions::is_pair(a, asked),
-        2 => elements::is_taken(a, (number_of(asked) % 65536) as u16),
-        3 => elements::is_needed(a, (number_of(asked) % 65536) as u16),
+        2 => elements::is_taken(a, (number_of(asked) % 256) as u8),
+        3 => elements::is_needed(a, (number_of(asked) % 256) as u8),
         _ => actions::writes_line(a),
     }
 }

@@ -26,7 +26,6 @@ pub judge-action-spec : {M : Type 1} → statement M
 judge-action-spec =
     tie.close
     (tie.spec
-    (λ c. search needs)
     (λ c κs. search needs)
     (λ c κs. search needs)
     (λ c. search needs)

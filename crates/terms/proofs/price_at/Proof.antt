@@ -13,13 +13,13 @@ returns : tie.Need-returns
 returns c =
     let a = c .before .before .before .before .before .before .before .before .args in
     let v = c .before .before .before .before .before .kept in
-    c .before .before .field-at .ensures ∙ ap (λ t. splice (now (a .dst)) (a .at) (field (a .n) t)) (price-none _ (c .before .before .before .before .if1 .taken) ∙ ap priceText (v .ensures))
+    c .before .before .field-at .ensures ∙ ap (λ t. splice (now (a .dst)) (a .at) (field (a .n) t)) (price-none _ (c .before .before .before .before .if1 .taken) ∙ ap priceText (v .ensures .0))
 
 returns-2 : tie.Need-returns-2
 returns-2 c =
     let a = c .before .before .before .before .before .before .before .before .args in
     let v = c .before .before .before .before .before .kept in
-    c .before .before .price-at .ensures ∙ ap (λ t. splice (now (a .dst)) (a .at) (field (a .n) t)) (price-some _ (c .before .before .before .before .if1 .left) ∙ ap priceText (v .ensures))
+    c .before .before .price-at .ensures ∙ ap (λ t. splice (now (a .dst)) (a .at) (field (a .n) t)) (price-some _ (c .before .before .before .before .if1 .left) ∙ ap priceText (v .ensures .0))
 
 pub price-at-spec : {M : Type 1} → statement M
 price-at-spec =

@@ -10,7 +10,7 @@ use Rattle.terms.proofs.text_at.Tie as tie
 returns : tie.Need-returns
 returns c =
     let a = c .before .before .before .before .before .before .before .args in
-    c .before .before .field-at .ensures ∙ ap (λ v. splice (now (a .dst)) (a .at) (field (a .n) v)) (c .before .before .before .kept .ensures)
+    c .before .before .field-at .ensures ∙ ap (λ v. splice (now (a .dst)) (a .at) (field (a .n) v)) (c .before .before .before .kept .ensures .0)
 
 pub text-at-spec : {M : Type 1} → statement M
 text-at-spec = tie.close (tie.spec (λ c κs. search needs) (λ c κs. search needs) (λ c. search needs) returns)

@@ -14,7 +14,7 @@ returns : tie.Need-returns
 returns c =
     let a = c .before .before .before .before .before .before .before .before .args in
     let v = c .before .before .before .before .before .kept in
-    c .before .before .field-at .ensures ∙ ap (λ t. splice (now (a .dst)) (a .at) (field markSize t)) (truth-none _ (c .before .before .before .before .if1 .taken) ∙ ap shownTruth (v .ensures))
+    c .before .before .field-at .ensures ∙ ap (λ t. splice (now (a .dst)) (a .at) (field markSize t)) (truth-none _ (c .before .before .before .before .if1 .taken) ∙ ap shownTruth (v .ensures .0))
 
 returns-2 : tie.Need-returns-2
 unfolding text
@@ -22,7 +22,7 @@ returns-2 c =
     let a = c .before .before .before .before .before .before .before .before .before .before .before .args in
     let v = c .before .before .before .before .before .before .before .before .kept in
     let true-one = sym (c .before .before .before .before .before .before .is-true .ensures) ∙ c .before .before .before .before .before .if2 .taken in
-    c .before .before .field-at2 .ensures ∙ ap (λ t. splice (now (a .dst)) (a .at) (field markSize t)) (truth-shown _ _ (c .before .before .before .before .before .before .before .if1 .left) true-one ∙ ap shownTruth (v .ensures))
+    c .before .before .field-at2 .ensures ∙ ap (λ t. splice (now (a .dst)) (a .at) (field markSize t)) (truth-shown _ _ (c .before .before .before .before .before .before .before .if1 .left) true-one ∙ ap shownTruth (v .ensures .0))
 
 returns-3 : tie.Need-returns-3
 unfolding text
@@ -30,7 +30,7 @@ returns-3 c =
     let a = c .before .before .before .before .before .before .before .before .before .before .before .args in
     let v = c .before .before .before .before .before .before .before .before .kept in
     let true-one = sym (c .before .before .before .before .before .before .is-true .ensures) ∙ c .before .before .before .before .before .if2 .left in
-    c .before .before .field-at3 .ensures ∙ ap (λ t. splice (now (a .dst)) (a .at) (field markSize t)) (truth-shown _ _ (c .before .before .before .before .before .before .before .if1 .left) true-one ∙ ap shownTruth (v .ensures))
+    c .before .before .field-at3 .ensures ∙ ap (λ t. splice (now (a .dst)) (a .at) (field markSize t)) (truth-shown _ _ (c .before .before .before .before .before .before .before .if1 .left) true-one ∙ ap shownTruth (v .ensures .0))
 
 pub truth-at-spec : {M : Type 1} → statement M
 truth-at-spec =

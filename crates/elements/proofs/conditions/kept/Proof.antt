@@ -1,5 +1,6 @@
 -- `elements::conditions::kept` meets its contract. Assumes nothing.
-use mathlib.Core.Path.{_≡_, sym, ap₂, _∙_}
+use mathlib.Core.Path.{_≡_, refl, sym, ap₂, _∙_}
+use native.Mathlib.Omega.{arith}
 use denote.Ref.{now}
 use Rattle.elements.specs.declared.table.Element.{Element}
 use Rattle.elements.specs.Table.{elementOf}
@@ -13,11 +14,12 @@ told c = c .is-met .ensures ∙ ap₂ (λ (e : Element) f. met (e .shown) f) (c 
 
 returns : tie.Need-returns
 unfolding kept
-returns c = rw (sym (told (c .before .before)) ∙ c .before .if1 .taken) (c .element .ensures .0)
+returns c = (rw (sym (told (c .before .before)) ∙ c .before .if1 .taken) (c .element .ensures .0), c .element .ensures .1)
 
 returns-2 : tie.Need-returns-2
 unfolding kept
-returns-2 c = rw (sym (told (c .before .before)) ∙ c .before .if1 .left)
+returns-2 c =
+    (rw (sym (told (c .before .before)) ∙ c .before .if1 .left), record { from = 0; block = refl; place = search needs; within = search needs; starts = λ h. omega (arith, h) })
 
 pub kept-spec : {M : Type 1} → statement M
 kept-spec =

@@ -1,9 +1,9 @@
 -- `message::entries::value_here` meets its contract: in a right layout a value ends behind its offset, and within the message. Assumes nothing.
 use Prim.Native.Nat.{_-_, _<_, _≤_}
-use mathlib.Core.Path.{_≡_, ap₂}
+use mathlib.Core.Path.{_≡_, refl, ap₂}
 use native.Mathlib.Omega.{arith}
 use borrow.Author.Tests.{lt-ltb}
-use lib.ListN.{length}
+use lib.ListN.{length, drop, length-take, length-drop}
 use denote.Ref.{now}
 use Rattle.octets.specs.Part.{part}
 use Rattle.message.specs.Values.{entries, valueAt}
@@ -29,7 +29,18 @@ returns c =
     let n : a .n ≡ entries (now (a .m)) = search needs in
     let h : a .k < entries (now (a .m)) = omega (arith, n) in
     let from = c .before .before .u16-inside .ensures .0 in
-    rw (lt-ltb _ _ h) (ap₂ (part (now (a .m))) from (ap₂ _-_ (c .before .end-of .ensures) from))
+    let at = c .before .before .u16-inside .result in
+    let end = c .before .end-of .result in
+    (
+      rw (lt-ltb _ _ h) (ap₂ (part (now (a .m))) from (ap₂ _-_ (c .before .end-of .ensures) from)),
+      record {
+        from = at;
+        block = refl;
+        place = search needs;
+        within = omega (arith, runs (c .before), length-take (end - at) (drop at (now (a .m))), length-drop at (now (a .m)));
+        starts = λ _. from;
+      },
+    )
 
 pub value-here-spec : {M : Type 1} → statement M
 value-here-spec =

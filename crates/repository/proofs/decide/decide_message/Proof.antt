@@ -13,12 +13,12 @@ start c = c .before .before .before
 returns : tie.Need-returns
 returns c largest b =
     let j = c .before .before .before in
-    sym (message-left (limitsOf (start j .args .longest) largest) (record { ledger = _; buffers = b }) _ (judged.Refused _ _) (sym (j .judge .ensures) ∙ c .before .verdict .given .1))
+    sym (message-left (limitsOf (start j .args .longest) largest) (record { ledger = _; buffers = b }) _ (judged.Refused _ _) (sym (j .judge .ensures .1) ∙ c .before .verdict .given .1))
 
 returns-2 : tie.Need-returns-2
 returns-2 c largest b =
     let j = c .before .before .before .before in
-    c .decide-swap .ensures ∙ sym (message-left (limitsOf (start j .args .longest) largest) (record { ledger = _; buffers = b }) _ (judged.Value _) (sym (j .judge .ensures) ∙ c .before .before .action .given .1))
+    c .decide-swap .ensures ∙ sym (message-left (limitsOf (start j .args .longest) largest) (record { ledger = _; buffers = b }) _ (judged.Value _) (sym (j .judge .ensures .1) ∙ c .before .before .action .given .1))
 
 pub decide-message-spec : {M : Type 1} → statement M
 decide-message-spec =

@@ -75,7 +75,6 @@ status-spec =
     (λ c κs. search needs)
     returns
     (λ c κs. search needs)
-    (λ c. search needs)
     (λ c κs. search needs)
     returns-2
     (λ c κs. let r = rows-read _ _ (read c) in (r .0, read c .1))

@@ -37,7 +37,7 @@ returns-7 : tie.Need-returns-7
 returns-7 c =
     let p = c .before .before .before .before .before .before .pre in
     let there = sym (p .1 .1 .1 .1 .0) ∙ not-false _ (c .before .before .if3 .left) in
-    rw (c .before .before .before .enum-told3 .given .1, there) (ap not (c .has-form .ensures ∙ ap (hasForm _) (c .before .value-here .ensures ∙ sym (found-there _ (p .1 .1 .0) _ _ (p .1 .1 .1 .0) there))))
+    rw (c .before .before .before .enum-told3 .given .1, there) (ap not (c .has-form .ensures ∙ ap (hasForm _) (c .before .value-here .ensures .0 ∙ sym (found-there _ (p .1 .1 .0) _ _ (p .1 .1 .1 .0) there))))
 
 returns-8 : tie.Need-returns-8
 unfolding isDue

@@ -79,10 +79,8 @@ lowest-fault-spec =
     μ-loop
     (λ c κs. search needs)
     loop-holds
-    (λ c. search needs)
     (λ c κs. search needs)
     is-at-fault-requires
-    (λ c. search needs)
     returns
     (λ c κs. search needs)
     (λ c. search needs)

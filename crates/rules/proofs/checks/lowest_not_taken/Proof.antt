@@ -34,4 +34,4 @@ returns c =
     sym (ap (answerOf (a .action)) (none (a .action) (now (a .m)) _ _ (c .before .before .last-code .ensures) (c .before .taken-up-to .ensures) (c .if1 .taken)))
 
 pub lowest-not-taken-spec : {M : Type 1} → statement M
-lowest-not-taken-spec = tie.close (tie.spec (λ c κs. search needs) (λ c κs. search needs) returns (λ c κs. search needs) (λ c. search needs))
+lowest-not-taken-spec = tie.close (tie.spec (λ c κs. search needs) (λ c κs. search needs) (λ c. search needs) returns (λ c κs. search needs) (λ c. search needs))
