@@ -1,4 +1,4 @@
-"""promises.py PROMISES.md: every name that the document gives exists, and what it quotes is the files' text.
+"""promises.py PROMISES.md: every name that the document gives exists, and it quotes what is promised, as the files have it.
 
 A name stands in back quotes and is one of
   crate::module::function          a function of crates/crate/src, or a method there
@@ -9,18 +9,52 @@ A name stands in back quotes and is one of
   host/dir/file.rs#test            a test of the host project
 Anything else in back quotes is an error, and so is a must-fail edit, a public function of a library or a function of a program that the document does not name.
 
-A quotation is a block that opens with three back quotes and the name of a file, as in crate/specs/File.antt. Its lines must stand in that file, one
-after the other; and the statement of each demand in QUOTED must be quoted whole, to the file's end.
+A quotation is a block that opens with three back quotes and the name of a file, as in crate/specs/File.antt. Its lines stand in that file, one after the
+other. A statement is a definition of specs with a capital and a hyphen in its name, or one that is a whole clause of a contract. These are quoted whole,
+each with the comment above it:
+  the contract of every exported function, and of every function that cites a statement
+  every file of DEMANDS from its first definition on
+  every statement, the definitions with a capital that it comes to, and the tables and other definitions of its own file that it speaks of
+Every statement is cited: named by an ensures clause, or by a definition with a capital that such a clause comes to. A clause is of Type 0, so a statement
+of a higher type has a law in proofs/ instead. CITED says what the exported functions must cite.
 """
 
+import functools
 import pathlib
 import re
 import sys
 
 CRATES = pathlib.Path("crates")
 
-# file and first line of what must be quoted
-QUOTED = [("submission/specs/Demand3.antt", "-- ---- the premises")]
+# the files that state the demands
+DEMANDS = [
+    "submission/specs/Demand1.antt",
+    "submission/specs/Demand2.antt",
+    "submission/specs/Demand3.antt",
+    "submission/specs/Published.antt",
+    "submission/specs/Counting.antt",
+    "repository/specs/Demands.antt",
+]
+
+# what the contract of an operation comes to, whatever code and document say
+CITED = {
+    "repository::sdr_open": ["Opening-demands", "Opening-answers", "Opening-exactly", "Opening-writes"],
+    "repository::sdr_submit": [
+        "Submission-demands",
+        "Submission-answers",
+        "Verdict-exactly",
+        "Checking-order",
+        "Accepted-exactly",
+        "Acceptance-writes",
+        "Same-tapes",
+        "Tape-told",
+        "Identifier-with-line",
+        "Identifier-counts",
+        "Quiet-call",
+        "Number-carries",
+    ],
+    "repository::sdr_status": ["Question-demands", "Question-answers", "Question-exactly", "Number-carries"],
+}
 
 TEST_PROGRAMS = ["vectors"]
 
@@ -105,18 +139,146 @@ def program_functions():
                     yield "::".join([crate, *module, name])
 
 
+DEFINITION = r"^(?:abbrev |unfoldable )?pub (?:record |data )?(?!mod |use )([^\s:]+)"
+IMPORT = r"use Rattle·(\w+)(?:·specs)?\.specs\.([\w.]+)\.\{([^}]*)\}"
+STATEMENT = r"[A-Z]\w*(-\w+)+"
+
+
+def paragraphs(file):
+    """What a file of specs says after its imports: definitions with their comments, and titles, between blank lines."""
+    after = re.split(r"^(?:pub )?use .*\n", text(CRATES / file) or "", flags=re.M)[-1]
+    return re.split(r"\n\n+(?=\S)", after.strip("\n"))
+
+
+@functools.cache
+def definitions(file):
+    """The paragraph of each name that a file of specs defines."""
+    return {name: p for p in paragraphs(file) for name in re.findall(DEFINITION, p, re.M)}
+
+
+@functools.cache
+def imports(file):
+    """The file of specs of each name that a file imports."""
+    found = re.findall(IMPORT, text(CRATES / file) or "")
+    return {name.strip(): "%s/specs/%s.antt" % (crate, path.replace(".", "/")) for crate, path, names in found for name in names.split(",")}
+
+
+def meant(file, name):
+    """The file and the name of the definition that a name means in a file, or None."""
+    if name in definitions(file):
+        return file, name
+    return meant(imports(file)[name], name) if name in imports(file) else None
+
+
+def named(file, source):
+    """The definitions that a text of a file names; comments, fields and labels of fields name none."""
+    bare = re.sub(r"(?:--|//).*|(?<=\s)\.\w+|^ +pub \S+ :", "", source, flags=re.M)
+    return {meant(file, word) for word in re.findall(r"[^\s(){},;⌜⌝«»]+", bare)} - {None}
+
+
+def reached(file, source):
+    """The definitions with a capital that a text of a file names, and those that these name."""
+    found, waiting = set(), [(file, source)]
+    while waiting:
+        new = {(f, name) for f, name in named(*waiting.pop()) if name[0].isupper()} - found
+        found |= new
+        waiting += [(f, definitions(f)[name]) for f, name in new]
+    return found
+
+
+def spoken_of(file, name):
+    """A statement, the definitions with a capital that it comes to, and all that those of its own file name there."""
+    found = {(file, name)} | reached(file, definitions(file)[name])
+    return found | {d for f, n in found if f == file for d in named(f, definitions(f)[n]) if d[0] == file}
+
+
+@functools.cache
+def contracts():
+    """Name, file and text of every function's contract: comment, signature and clauses, up to the brace of its body."""
+    found = []
+    for path in sorted(CRATES.glob("*/src/*.rt")):
+        file, lines = path.relative_to(CRATES).as_posix(), text(path).splitlines()
+        module = [] if path.stem in ("lib", "main") else [path.stem]
+        for at, function in [(i, re.match(FUNCTION, line)) for i, line in enumerate(lines)]:
+            if function:
+                first = at
+                while re.match(r" *(?://|#\[)", lines[first - 1]):
+                    first -= 1
+                last = next(i for i in range(at, len(lines)) if lines[i].endswith("{"))
+                name = "::".join([path.parts[1], *module, function[1]])
+                found.append((name, file, "\n".join(lines[first:last])))
+    return found
+
+
+def promised(contract):
+    """The clauses of a contract that say what holds after the call."""
+    return "".join(re.findall(r"^ *ensures\b.*?(?=^ *(?:requires|ensures)\b|\Z)", contract, re.M | re.S))
+
+
+@functools.cache
+def statements():
+    """File and name of every statement."""
+    specs = [path.relative_to(CRATES).as_posix() for path in sorted(CRATES.glob("*/specs/**/*.antt"))]
+    own = {(file, name) for file in specs for name in definitions(file) if re.fullmatch(STATEMENT, name)}
+    clauses = {meant(file, name) for _, file, contract in contracts() for name in re.findall(r"⌜ ([A-Z][\w-]*) ⌝", promised(contract))}
+    return own | clauses - {None}
+
+
+def due():
+    """File, name and text of what the document must quote."""
+    for name, file, contract in contracts():
+        if 'extern "C"' in contract or named(file, promised(contract)) & statements():
+            yield file, name, contract
+    for file in DEMANDS:
+        for paragraph in paragraphs(file):
+            yield file, (re.findall(DEFINITION, paragraph, re.M) or paragraph.splitlines())[0], paragraph
+    for file, name in sorted(statements()):
+        for f, n in sorted(spoken_of(file, name)):
+            yield f, n, definitions(f)[n]
+
+
+def holds(source, part):
+    """The lines of part stand in source, one after the other."""
+    return "\n%s\n" % part.strip("\n") in "\n%s\n" % source
+
+
+def quotations(document):
+    return [(file, quoted.rstrip("\n")) for file, quoted in re.findall(r"^```(\S+)\n(.*?)^```$", document, re.M | re.S)]
+
+
 def quotation_faults(document):
     """The quotations are the files' text, and none that is due is missing."""
-    quotations = re.findall(r"^```(\S+)\n(.*?)^```$", document, re.M | re.S)
-    for name, quoted in quotations:
-        if quoted not in (text(CRATES / name) or ""):
-            yield "not the text of the file: the quotation of " + name
-    for name, first in QUOTED:
-        source = text(CRATES / name) or ""
-        at = source.find("\n" + first + "\n")
-        due = source[at + 1 :]
-        if at < 0 or not any(file == name and due in quoted for file, quoted in quotations):
-            yield "not quoted whole: %s from '%s' on" % (name, first)
+    quoted = quotations(document)
+    for file, block in quoted:
+        lines, source = block.splitlines(), text(CRATES / file) or ""
+        for i in range(len(lines)):
+            if not holds(source, "\n".join(lines[: i + 1])):
+                yield "not the text of %s: '%s'" % (file, lines[i])
+                break
+    for file, name, source in dict.fromkeys(due()):
+        if not any(f == file and holds(block, source) for f, block in quoted):
+            yield "not quoted whole, of %s: %s" % (file, name)
+
+
+def is_stated(file, name):
+    """A statement above Type 0 that is the type of a law of its crate."""
+    laws = (CRATES / file.split("/")[0] / "proofs").glob("**/*.antt")
+    is_above = re.search(r"pub %s : Type [1-9]" % name, definitions(file)[name])
+    return is_above and any(re.search(r"^pub \S+ : %s$" % name, text(law), re.M) for law in laws)
+
+
+def citation_faults():
+    """Every statement is cited, and the exported functions cite what they must."""
+    cited = {name: reached(file, promised(contract)) for name, file, contract in contracts()}
+    everywhere = set().union(*cited.values())
+    for file, name in sorted(statements() - everywhere):
+        if not is_stated(file, name):
+            yield "no contract cites %s#%s" % (file, name)
+    for function, names in CITED.items():
+        have = {name for _, name in cited.get(function, [])}
+        for name in names:
+            if name not in have:
+                yield "the contract of %s does not cite %s" % (function, name)
 
 
 def main(path):
@@ -127,11 +289,12 @@ def main(path):
     edits = ["%s/must-fail/%s" % (p.parts[1], p.name) for p in sorted(CRATES.glob("*/must-fail/*.edit"))]
     faults += ["not in the document: " + name for name in edits + list(public_functions()) + list(program_functions()) if name not in names]
     faults += quotation_faults(whole)
+    faults += citation_faults()
     for fault in faults:
         print("%s: %s" % (path, fault), file=sys.stderr)
     if faults:
         sys.exit(1)
-    print("%s: %d names, each of them exists" % (path, len(set(names))))
+    print("%s: %d names, each of them exists; %d quotations, as the files have them" % (path, len(set(names)), len(quotations(whole))))
 
 
 if __name__ == "__main__":

@@ -1,7 +1,8 @@
 -- Document 01, 'Elements', and document 000, Appendix F: which events go with which action (verdict 10).
 use Prim.Native.Nat.{ℕ}
 use Prim.Native.Char.{code}
-use mathlib.Core.Bool.{Bool}
+use mathlib.Core.Bool.{Bool, true, false}
+use mathlib.Core.Path.{_≡_}
 use lib.ListN.{length, getD}
 use lib.Dec.{eqb}
 use Rattle.octets.specs.Bytes.{Bytes}
@@ -9,6 +10,7 @@ use Rattle.octets.specs.Choice.{choose, both}
 use Rattle.octets.specs.Text.{text}
 use Rattle.octets.specs.Same.{place, oneOf}
 use Rattle.actions.specs.declared.Action.{Action}
+use Rattle.actions.specs.declared.Action.the-variants.{Newt, Modi, Term, Prto}
 use Rattle.actions.specs.Table.{events, rowOf}
 
 -- the column of no event
@@ -21,3 +23,12 @@ tick a column = eqb (getD (text (rowOf a .events)) column 0) (code "Y")
 -- the action and the event, or its absence, are a pair of the matrix
 unfoldable pub pairAllowed : Action → Bytes → Bool
 pairAllowed a event = choose (eqb (length event) 0) (tick a noEvent) (both (oneOf events event) (tick a (place events event)))
+
+-- the pairs that document 01 names: four that the matrix allows, one that it does not
+abbrev pub Named-pairs : Type 0
+Named-pairs =
+    (pairAllowed Newt (text "TRAD") ≡ true)
+    × (pairAllowed Modi (text "TRAD") ≡ true)
+    × (pairAllowed Term (text "ETRM") ≡ true)
+    × (pairAllowed Prto (text "PTNG") ≡ true)
+    × (pairAllowed Newt (text "ETRM") ≡ false)

@@ -1,7 +1,7 @@
 // Which events go with which action: the matrix of Appendix F.
 ghost use mathlib.Core.Path.{_≡_};
 ghost use Prim.Native.Nat.{_≤_};
-ghost use Rattle.actions.specs.Matrix.{noEvent, tick, pairAllowed};
+ghost use Rattle.actions.specs.Matrix.{noEvent, tick, pairAllowed, Named-pairs};
 use crate::Action;
 use crate::table::EVENTS;
 use crate::table::MATRIX;
@@ -22,6 +22,7 @@ fn has_tick(a: Action, column: usize) -> bool
 // Whether the action and the event, or its absence, are a pair of the matrix.
 pub fn is_pair(a: Action, event: &[u8]) -> bool
     ensures { λ r. ⌜ r ≡ pairAllowed a (now (event .entry)) ⌝ }
+    ensures { λ _. ⌜ Named-pairs ⌝ }
 {
     if event.len() == 0 {
         return has_tick(a, NO_EVENT);

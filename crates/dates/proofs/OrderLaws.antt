@@ -16,7 +16,7 @@ use Rattle.values.specs.Run.{inClass}
 use Rattle.values.specs.declared.run.Class.the-variants.{Digit}
 use Rattle.octets.proofs.SearchLaws.{all-shift}
 use Rattle.octets.proofs.WriteLaws.{drop-next}
-use Rattle.dates.specs.Dates.{fitsByte, fitsAt, fitsPattern, datePattern, isDate, timePattern, isTime, before}
+use Rattle.dates.specs.Dates.{fitsByte, fitsAt, fitsPattern, datePattern, isDate, timePattern, isTime, before, number, Date-order, Time-order}
 
 -- nothing is before what has no bytes left
 pub before-none : (a : Bytes) → before a [] ≡ false
@@ -48,11 +48,6 @@ module _ (a b : Bytes) (i : ℕ) (h : i < length b) where
       by false = refl
 
 -- ---- the order of bytes is that of time: two values of one pattern compare as the numbers of their digits do
-
--- the number that the digits of a value spell, read on from n; what is no digit is passed over
-unfoldable pub number : ℕ → Bytes → ℕ
-number n [] = n
-number n (b ∷ v) = choose (inClass Digit b) (number (n * 10 + (b - code "0")) v) (number n v)
 
 -- two bytes of one place: both are digits, or they are the same
 abbrev alike : ℕ → ℕ → Bool
@@ -191,12 +186,10 @@ module _ (p a b : Bytes) (fa : fitsPattern p a ≡ true) (fb : fitsPattern p b �
   pattern-order : before a b ≡ ltb (number 0 a) (number 0 b)
   pattern-order = ordered a b 0 (alike-fits p a b (row-of a fa) (row-of b fb))
 
--- a date is before another exactly where its number YYYYMMDD is smaller
-pub date-order : (a b : Bytes) → isDate a ≡ true → isDate b ≡ true → before a b ≡ ltb (number 0 a) (number 0 b)
+pub date-order : Date-order
 unfolding isDate
 date-order a b e f = pattern-order datePattern a b (both-first (fitsPattern datePattern a) _ e) (both-first (fitsPattern datePattern b) _ f)
 
--- a time is before another exactly where its number YYYYMMDDhhmmss is smaller
-pub time-order : (a b : Bytes) → isTime a ≡ true → isTime b ≡ true → before a b ≡ ltb (number 0 a) (number 0 b)
+pub time-order : Time-order
 unfolding isTime
 time-order a b e f = pattern-order timePattern a b (both-first (fitsPattern timePattern a) _ e) (both-first (fitsPattern timePattern b) _ f)

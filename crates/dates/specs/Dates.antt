@@ -3,6 +3,7 @@ use Prim.Native.Nat.{ℕ, _+_, _-_, _*_, _%_}
 use Prim.Native.Char.{code}
 use mathlib.Core.Bool.{Bool, true, false, not}
 use mathlib.Core.List.{[], _∷_}
+use mathlib.Core.Path.{_≡_}
 use lib.ListN.{length, getD}
 use lib.Dec.{ltb, leb, eqb}
 use Rattle.octets.specs.Bytes.{Bytes}
@@ -68,3 +69,16 @@ unfoldable pub before : Bytes → Bytes → Bool
 before a [] = false
 before [] (y ∷ b) = true
 before (x ∷ a) (y ∷ b) = either (ltb x y) (both (eqb x y) (before a b))
+
+-- the number that the digits of a value spell, read on from n; what is no digit is passed over
+unfoldable pub number : ℕ → Bytes → ℕ
+number n [] = n
+number n (b ∷ v) = choose (inClass Digit b) (number (n * 10 + (b - code "0")) v) (number n v)
+
+-- a date is before another exactly where its number YYYYMMDD is smaller
+abbrev pub Date-order : Type 0
+Date-order = (a b : Bytes) → isDate a ≡ true → isDate b ≡ true → before a b ≡ ltb (number 0 a) (number 0 b)
+
+-- a time is before another exactly where its number YYYYMMDDhhmmss is smaller
+abbrev pub Time-order : Type 0
+Time-order = (a b : Bytes) → isTime a ≡ true → isTime b ≡ true → before a b ≡ ltb (number 0 a) (number 0 b)

@@ -1,7 +1,7 @@
 // Dates and times: document 01, 'Elements', the forms of codes 4 to 9, and their order.
 ghost use mathlib.Core.Path.{_≡_};
 ghost use Prim.Native.Nat.{_<_};
-ghost use Rattle.dates.specs.Dates.{fitsByte, fitsPattern, digitAt, twoDigits, leap, daysIn, gregorian, namesDate, isDate, isTime, before};
+ghost use Rattle.dates.specs.Dates.{fitsByte, fitsPattern, digitAt, twoDigits, leap, daysIn, gregorian, namesDate, isDate, isTime, before, Date-order, Time-order};
 use octets::byte_at;
 use values::Class;
 use values::in_class;
@@ -135,6 +135,7 @@ pub fn is_time(v: &[u8]) -> bool
 // Whether a date is before a date, or a time before a time.
 pub fn is_before(a: &[u8], b: &[u8]) -> bool
     ensures { λ r. ⌜ r ≡ before (now (a .entry)) (now (b .entry)) ⌝ }
+    ensures { λ _. ⌜ Date-order × Time-order ⌝ }
 {
     let mut i: usize = 0;
     while i < b.len() {

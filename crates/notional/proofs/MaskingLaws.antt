@@ -1,15 +1,19 @@
--- Laws of specs/Masking.antt. Assumes nothing.
+-- Laws of specs/Masking.antt, and its examples. Assumes nothing.
 use Prim.Native.Nat.{ℕ, _+_, _*_, _<_, _≤_, min}
 use mathlib.Core.Bool.{Bool, true, false}
 use mathlib.Core.Path.{_≡_, refl, sym}
 use native.Mathlib.Omega.{arith}
 use lib.Dec.{ltb, leb}
 use borrow.Author.Tests.{lt-ltb, le-ltb, ltb-true, ltb-false, leb-true, eqb-true}
+use Rattle.octets.specs.Search.{firstFrom}
+use Rattle.octets.specs.Text.{text}
 use Rattle.octets.proofs.ChoiceLaws.{both-first, both-second}
 use Rattle.values.specs.Run.{within}
-use Rattle.notional.specs.Amount.{unit}
+use Rattle.numbers.specs.Numbers.{pointIn, wholeOf, decimalsOf}
+use Rattle.notional.specs.Amount.{unit, digit, spelled, fraction, amount}
 use Rattle.notional.specs.Rounding.{bands, stepIn, step, nearest, rounded}
 use Rattle.notional.specs.Masking.{over, shown, smallestCap, largestCap, isCap}
+use Rattle.notional.specs.Examples.{allShown, Examples-shown}
 use Rattle.notional.proofs.RoundingLaws.{rounded-monotone}
 
 module _ (cap a : ℕ) where
@@ -83,3 +87,9 @@ largest-own = refl
 -- nor does what is shown under any number up to the largest cap exceed that
 pub shown-largest : (cap a : ℕ) → cap ≤ largestCap → shown cap a ≤ largestCap
 shown-largest cap a h = shown-below cap largestCap a h largest-own
+
+-- ---- document 01's examples
+
+pub examples-shown : Examples-shown
+unfolding allShown text firstFrom pointIn wholeOf decimalsOf digit spelled fraction amount bands stepIn step nearest rounded over shown
+examples-shown = refl

@@ -1,17 +1,17 @@
--- Laws of specs/Rounding.antt: rounding keeps the order, and rounding what is rounded changes nothing. Assumes nothing.
+-- Laws of specs/Rounding.antt: a step rounds to the nearest, rounding keeps the order, and rounding what is rounded changes nothing. Assumes nothing.
 use Prim.Native.Nat.{ℕ, _+_, _*_, _/_, _%_, _<_, _≤_}
 use mathlib.Core.Bool.{Bool, true, false}
 use mathlib.Core.List.{List, [], _∷_}
 use mathlib.Core.Logic.{_⊎_, inl, inr}
 use mathlib.Core.Path.{_≡_, refl, sym, ap, ap₂, _∙_}
 use native.Mathlib.Omega.{arith}
-use native.Mathlib.Nat.{div-div-eq-div-mul, mul-div-mul-left, div-mul-le-self, div-add-mod', div-eq-of-lt-le, le-div-iff-mul-le, mul-mod-left, mul-le-mul-left, mul-le-mul-right, mul-assoc, mul-left-comm, add-mul, le-trans}
+use native.Mathlib.Nat.{div-div-eq-div-mul, mul-div-mul-left, div-mul-le-self, lt-div-mul-add, div-add-mod', div-eq-of-lt-le, le-div-iff-mul-le, mul-mod-left, mul-le-mul-left, mul-le-mul-right, mul-assoc, mul-left-comm, add-mul, le-trans}
 use lib.Dec.{ltb, leb, eqb}
 use borrow.Author.Tests.{ltb-true, ltb-false, leb-true, eqb-true}
 use Rattle.octets.specs.Choice.{both}
 use Rattle.octets.proofs.ChoiceLaws.{both-first, both-second}
 use Rattle.notional.specs.Amount.{unit}
-use Rattle.notional.specs.Rounding.{bands, lastStep, stepIn, step, nearest, leastShown, rounded}
+use Rattle.notional.specs.Rounding.{bands, lastStep, stepIn, step, nearest, Nearest-step, leastShown, rounded}
 use Rattle.notional.proofs.BandLaws.{step-here, step-after}
 
 -- ---- rounding by halves of a unit: one law for every step
@@ -63,6 +63,17 @@ module _ (s : ℕ) (pos : 0 < s) where
   nearest-is-multiple : (a : ℕ) → nearest s a % s ≡ 0
   unfolding nearest
   nearest-is-multiple a = mul-mod-left _ s
+
+pub nearest-step : Nearest-step
+unfolding nearest
+nearest-step s a pos =
+    let k : ℕ = 2 * (s * unit) in
+    let x : ℕ = 2 * a + s * unit in
+    let q : ℕ = x / k in
+    let times : q * k ≡ 2 * (q * s * unit) = rw (mul-left-comm q 2 (s * unit), ← mul-assoc q s unit) in
+    let above : q * k ≤ x = div-mul-le-self x k in
+    let below : x < q * k + k = lt-div-mul-add {a = x} {b = k} (omega arith) in
+    (nearest-is-multiple s pos a, omega arith, omega arith)
 
 -- ---- the bands: one test of the whole table
 

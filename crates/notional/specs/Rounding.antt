@@ -1,6 +1,7 @@
 -- Document 01, 'The masked notional': the bands and the rounded amount. Amounts are in units of 10^-5, what is shown is in units.
-use Prim.Native.Nat.{ℕ, _+_, _*_, _/_, max}
+use Prim.Native.Nat.{ℕ, _+_, _*_, _/_, _%_, _<_, _≤_, max}
 use mathlib.Core.List.{List, [], _∷_}
+use mathlib.Core.Path.{_≡_}
 use lib.Dec.{ltb}
 use Rattle.octets.specs.Choice.{choose}
 use Rattle.notional.specs.Amount.{unit}
@@ -34,6 +35,11 @@ step a = stepIn bands a
 -- the multiple of s units nearest to an amount; a tie goes up
 unfoldable pub nearest : ℕ → ℕ → ℕ
 nearest s a = (2 * a + s * unit) / (2 * (s * unit)) * s
+
+-- nearest, and a tie goes up: a multiple of the step, above the amount by half a step at most, below it by less
+abbrev pub Nearest-step : Type 0
+Nearest-step =
+    (s a : ℕ) → 0 < s → (nearest s a % s ≡ 0) × (2 * (nearest s a * unit) ≤ 2 * a + s * unit) × (2 * a < 2 * (nearest s a * unit) + s * unit)
 
 -- never shown below 5
 abbrev pub leastShown : ℕ

@@ -1,9 +1,8 @@
 -- Laws of specs/Price.antt: a turn of each loop, what zero is, and that a price fits its field. Assumes nothing.
 use Prim.Native.Nat.{ℕ, _+_, _-_, _<_, _≤_, suc}
 use Prim.Native.Char.{code}
-use Prim.Native.String.{String}
 use mathlib.Core.Bool.{Bool, true, false}
-use mathlib.Core.List.{List, [], _∷_, _++_, append-assoc, reverse, reverse-cons, reverse-append, reverse-reverse}
+use mathlib.Core.List.{[], _∷_, _++_, append-assoc, reverse, reverse-cons, reverse-append, reverse-reverse}
 use mathlib.Core.Path.{_≡_, refl, ap, _∙_}
 use native.Mathlib.Omega.{arith}
 use borrow.Author.Tests.{eqb-true, ne-eqb}
@@ -20,6 +19,7 @@ use Rattle.octets.proofs.WriteLaws.{drop-next}
 use Rattle.numbers.specs.Numbers.{priceDigits, priceDecimals, pointIn, wholeOf, decimalsOf, hasMinus, unsignedOf, isPrice}
 use Rattle.numbers.proofs.NumbersLaws.{whole-some, digits-most}
 use Rattle.price.specs.Price.{priceSize, dropZeros, trimZeros, empty, shownWhole, shownDecimals, shownUnsigned, isZero, showsMinus, shownSign, shownPrice}
+use Rattle.price.specs.Examples.{allShown, Prices-shown}
 
 -- ---- a turn of the loop at i, and of the one that comes from the end, at n
 
@@ -130,30 +130,8 @@ shown-fits v e =
     let digits : length (wholeOf u) + length (decimalsOf u) ≤ priceDigits = digits-most priceDigits priceDecimals u e in
     simp length-append (omega (arith, sign-size v, decimals-size (decimalsOf u)))
 
--- ---- examples: a price, and how a line shows it
+-- ---- the examples
 
-unfoldable pub examples : List (String × String)
-examples =
-    ("000", "0")
-    ∷ ("0", "0")
-    ∷ ("-0", "0")
-    ∷ ("-00.00", "0")
-    ∷ ("007", "7")
-    ∷ ("100", "100")
-    ∷ ("-100", "-100")
-    ∷ ("-0.50", "-0.5")
-    ∷ ("0100.0010", "100.001")
-    ∷ ("0.0", "0")
-    ∷ ("00.5", "0.5")
-    ∷ ("-12.", "-12")
-    ∷ ("10.00", "10")
-    ∷ ("-12345.1234567890123", "-12345.1234567890123")
-    ∷ []
-
-unfoldable pub allShown : List (String × String) → Bool
-allShown [] = true
-allShown (e ∷ es) = both (sameBytes (shownPrice (text (e .0))) (text (e .1))) (allShown es)
-
-pub examples-shown : allShown examples ≡ true
-unfolding text sameBytes firstFrom pointIn wholeOf decimalsOf unsignedOf dropZeros trimZeros shownWhole shownDecimals shownUnsigned isZero showsMinus shownSign shownPrice allShown examples
-examples-shown = refl
+pub prices-shown : Prices-shown
+unfolding text sameBytes firstFrom pointIn wholeOf decimalsOf unsignedOf dropZeros trimZeros shownWhole shownDecimals shownUnsigned isZero showsMinus shownSign shownPrice allShown
+prices-shown = refl

@@ -1,7 +1,7 @@
 -- The masked terms depend on the public elements and on the masked amount alone. Assumes nothing.
 use Prim.Native.Nat.{ℕ}
 use mathlib.Core.Bool.{true}
-use mathlib.Core.Path.{_≡_, refl, ap₂}
+use mathlib.Core.Path.{_≡_, refl, ap, ap₂}
 use mathlib.Core.List.{[]}
 use Rattle.octets.specs.Bytes.{Bytes}
 use Rattle.octets.specs.Choice.{choose}
@@ -9,10 +9,8 @@ use Rattle.message.specs.Values.{value}
 use Rattle.elements.specs.Codes.{executionTime, effectiveDate, expirationDate, cleared, nonStandardizedTerm, blockElection, largeNotionalElection, packageIndicator, packagePrice, priceNotation, priceCurrency, notionalAmount, notionalCurrency, settlementLocation, assetClass}
 use Rattle.elements.specs.Conditions.{isPackage, valueIs, factsOf, met, kept}
 use Rattle.elements.specs.Table.{elementOf}
-use Rattle.notional.specs.Amount.{amount}
-use Rattle.notional.specs.Masking.{over, shown}
 use Rattle.terms.specs.Terms.{termsOf}
-use Rattle.terms.specs.Public.{isPublicTerm, Agree}
+use Rattle.terms.specs.Public.{isPublicTerm, Agree, Terms-public}
 
 module _ (m₁ m₂ : Bytes) (same : Agree m₁ m₂) where
   -- the conditions are about public elements
@@ -29,15 +27,15 @@ amount-kept : (m : Bytes) → kept notionalAmount m ≡ value notionalAmount m
 unfolding kept elementOf
 amount-kept m = refl
 
-pub terms-public : (cap₁ cap₂ : ℕ) (m₁ m₂ : Bytes) → Agree m₁ m₂ → shown cap₁ (amount (value notionalAmount m₁)) ≡ shown cap₂ (amount (value notionalAmount m₂)) → over cap₁ (amount (value notionalAmount m₁)) ≡ over cap₂ (amount (value notionalAmount m₂)) → termsOf cap₁ m₁ ≡ termsOf cap₂ m₂
+pub terms-public : Terms-public
 unfolding termsOf elementOf isPublicTerm
-terms-public cap₁ cap₂ m₁ m₂ same units plus =
+terms-public cap₁ cap₂ m₁ m₂ same masked =
     let k = kept-same m₁ m₂ same in
     rw (
       amount-kept m₁,
       amount-kept m₂,
-      units,
-      plus,
+      ap (λ p. p .0) masked,
+      ap (λ p. p .1) masked,
       k executionTime refl,
       k effectiveDate refl,
       k expirationDate refl,

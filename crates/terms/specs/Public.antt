@@ -1,4 +1,4 @@
--- Document 01, 'Elements', column 'Public': the elements that the masked terms show as they are.
+-- Document 01, 'Elements', column 'Public': the elements that the masked terms show as they are, and that nothing else is shown.
 use Prim.Native.Nat.{ℕ}
 use mathlib.Core.Bool.{Bool, true, false}
 use mathlib.Core.Path.{_≡_}
@@ -9,7 +9,11 @@ use Rattle.elements.specs.declared.table.Kinds.{Kinds}
 use Rattle.elements.specs.declared.table.Kinds.the-variants.{None, All, Full}
 use Rattle.elements.specs.declared.table.Public.{Public}
 use Rattle.elements.specs.declared.table.Public.the-variants.{Hidden, Masked, Shown}
+use Rattle.elements.specs.Codes.{notionalAmount}
 use Rattle.elements.specs.Table.{elementOf}
+use Rattle.notional.specs.Amount.{amount}
+use Rattle.notional.specs.Masking.{over, shown}
+use Rattle.terms.specs.Terms.{termsOf}
 
 abbrev pub isFullOnly : Kinds → Bool
 isFullOnly None = false
@@ -28,3 +32,13 @@ isPublicTerm code = both (isFullOnly (elementOf code .taken)) (isShown (elementO
 -- two messages have the same values of these elements
 abbrev pub Agree : Bytes → Bytes → Type 0
 Agree m₁ m₂ = (code : ℕ) → isPublicTerm code ≡ true → value code m₁ ≡ value code m₂
+
+-- the masked amount of a message: the units that are shown, and whether a plus sign follows
+abbrev pub maskedAmount : ℕ → Bytes → ℕ × Bool
+maskedAmount cap m = (shown cap (amount (value notionalAmount m)), over cap (amount (value notionalAmount m)))
+
+-- the masked terms depend on these elements and on the masked amount alone,
+-- whatever the parties, package names, settlement dates and true amounts
+abbrev pub Terms-public : Type 0
+Terms-public =
+    (cap₁ cap₂ : ℕ) (m₁ m₂ : Bytes) → Agree m₁ m₂ → maskedAmount cap₁ m₁ ≡ maskedAmount cap₂ m₂ → termsOf cap₁ m₁ ≡ termsOf cap₂ m₂

@@ -6,8 +6,11 @@ ghost use Rattle.octets.specs.Part.{splice};
 ghost use Rattle.octets.specs.Field.{field};
 ghost use Rattle.octets.specs.Fields.{written};
 ghost use Rattle.elements.specs.Conditions.{factsOf, kept};
-ghost use Rattle.notional.specs.Masking.{largestCap};
+ghost use Rattle.elements.specs.Codes.{notionalAmount};
+ghost use Rattle.notional.specs.Amount.{amount};
+ghost use Rattle.notional.specs.Masking.{over, shown, largestCap};
 ghost use Rattle.terms.specs.Terms.{markSize, shownTruth, priceText, plusText, dateFields, truthFields, quoteFields, quoteSize, notionalFields, termsOf, nonStandardizedAt, classAt, termsSize};
+ghost use Rattle.terms.specs.Public.{Terms-public};
 use elements::ASSET_CLASS;
 use elements::BLOCK_ELECTION;
 use elements::CLEARED;
@@ -24,6 +27,7 @@ use elements::PACKAGE_PRICE;
 use elements::PRICE_CURRENCY;
 use elements::PRICE_NOTATION;
 use elements::SETTLEMENT_LOCATION;
+use notional::Masked;
 use octets::field_at;
 use values::CURRENCY_SIZE;
 use values::LOCATION_SIZE;
@@ -179,13 +183,22 @@ fn write_quote(
     );
 }
 
+// The masked notional amount.
+fn mask_amount(m: &[u8], facts: Facts, cap: u64) -> Masked
+    requires { ⌜ cap ≤ largestCap ⌝ }
+    requires { ⌜ facts ≡ factsOf (now m) ⌝ }
+    ensures { λ r. ⌜ (r .units ≡ shown cap (amount (kept notionalAmount (now (m .entry))))) × (r .plus ≡ over cap (amount (kept notionalAmount (now (m .entry))))) ⌝ }
+{
+    notional::mask(elements::kept(m, facts, NOTIONAL_AMOUNT), cap)
+}
+
 // Asset class, notional with its plus sign, notional currency, location.
 fn write_notional(dst: &mut [u8], m: &[u8], facts: Facts, cap: u64)
     requires { ⌜ (length (now dst) ≡ termsSize) × (cap ≤ largestCap) ⌝ }
     requires { ⌜ facts ≡ factsOf (now m) ⌝ }
     ensures { λ _. ⌜ now (dst .exit) ≡ written classAt (notionalFields cap (now (m .entry))) (now (dst .entry)) ⌝ }
 {
-    let masked = notional::mask(elements::kept(m, facts, NOTIONAL_AMOUNT), cap);
+    let masked = mask_amount(m, facts, cap);
     text_at(dst, CLASS_AT, CLASS_SIZE, m, facts, ASSET_CLASS);
     octets::digits_at(dst, NOTIONAL_AT, NOTIONAL_SIZE, masked.units);
     plus_at(dst, PLUS_AT, masked.plus);
@@ -211,6 +224,7 @@ fn write_notional(dst: &mut [u8], m: &[u8], facts: Facts, cap: u64)
 pub fn write_terms(dst: &mut [u8], m: &[u8], cap: u64)
     requires { ⌜ (length (now dst) ≡ termsSize) × (cap ≤ largestCap) ⌝ }
     ensures { λ _. ⌜ now (dst .exit) ≡ termsOf cap (now (m .entry)) ⌝ }
+    ensures { λ _. ⌜ Terms-public ⌝ }
 {
     let facts = elements::facts_of(m);
     write_dates(dst, m, facts);

@@ -34,7 +34,7 @@ use Rattle.submission.specs.History.{publishes, lineOf, tape, judgements}
 use Rattle.submission.specs.Opening.{openingRules, openingVerdict, opened}
 use Rattle.submission.specs.Submission.{rowRight, hasWrongRow, isNotAdmitted, hasOtherTime, findsFull, findsSpent, swapRules, submissionRules, verdictOn, capOn, maskedTerms, termsFor, placeFor, rowFor, ledgerFor, lineFor, submitted}
 use Rattle.witness.specs.Encoding.{entries, values, encoded}
-use Rattle.witness.specs.Messages.{packageSwap, newUnclearedSwap, inError, termination}
+use Rattle.witness.specs.Messages.{packageSwap, unclearedSwap, shortMessage}
 use Rattle.witness.specs.Histories.{left, right}
 use Rattle.witness.specs.Lines.{lineText, lines, tapeText}
 use Rattle.witness.proofs.AlikeTest.{alikeTest}
@@ -68,7 +68,7 @@ unfolding lastTerms maskedTermsAt publishes lineOf tape judgements openingRules 
 submitting = tt
 
 history : Unit {0}
-unfolding entries values encoded packageSwap newUnclearedSwap inError termination left right lineText lines tapeText alikeTest
+unfolding entries values encoded packageSwap unclearedSwap shortMessage left right lineText lines tapeText alikeTest
 history = tt
 
 -- all of it

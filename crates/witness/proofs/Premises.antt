@@ -1,10 +1,15 @@
 -- The premises of demand 3 are met by two histories that differ. Assumes nothing.
-use Prim.Native.Nat.{_^_, _<_}
+use Prim.Native.Nat.{ℕ, _^_, _<_}
+use Prim.Native.String.{String}
 use mathlib.Core.Path.{_≡_, refl}
 use mathlib.Core.List.{List, [], _∷_, map}
 use native.Mathlib.Omega.{arith}
 use Rattle.octets.specs.Bytes.{Bytes}
+use Rattle.octets.specs.Text.{text}
+use Rattle.message.specs.Values.{value}
+use Rattle.actions.specs.Actions.{actionCode}
 use Rattle.ledger.specs.Layout.{u32}
+use Rattle.submission.specs.Verdicts.{notAdmitted}
 use Rattle.submission.specs.Opening.{opened}
 use Rattle.submission.specs.History.{Judgement, judgements, tape}
 use Rattle.submission.specs.Demand3.{Alike, start}
@@ -28,14 +33,29 @@ judgedLeft = judgements limits (start limits caps leftLedger) left
 abbrev pub judgedRight : List Judgement
 judgedRight = judgements limits (start limits caps rightLedger) right
 
-abbrev pub verdictNumbers : List Judgement → Bytes
-verdictNumbers js = map (λ j. j .verdict) js
+-- the action and the verdict of each message
+abbrev pub actionsJudged : List Judgement → List (Bytes × ℕ)
+actionsJudged js = map (λ j. (value actionCode (j .message), j .verdict)) js
 
-pub verdicts-left : verdictNumbers judgedLeft ≡ 0 ∷ 0 ∷ 15 ∷ 0 ∷ 0 ∷ []
+-- each of the seven actions is accepted; the third message, with this action, is refused
+abbrev pub allActions : String → List (Bytes × ℕ)
+allActions third =
+    (text "NEWT", 0)
+    ∷ (text "MODI", 0)
+    ∷ (text third, notAdmitted)
+    ∷ (text "NEWT", 0)
+    ∷ (text "CORR", 0)
+    ∷ (text "TERM", 0)
+    ∷ (text "EROR", 0)
+    ∷ (text "REVI", 0)
+    ∷ (text "PRTO", 0)
+    ∷ []
+
+pub verdicts-left : actionsJudged judgedLeft ≡ allActions "NEWT"
 unfolding computing
 verdicts-left = refl
 
-pub verdicts-right : verdictNumbers judgedRight ≡ 0 ∷ 0 ∷ 15 ∷ 0 ∷ 0 ∷ []
+pub verdicts-right : actionsJudged judgedRight ≡ allActions "TERM"
 unfolding computing
 verdicts-right = refl
 

@@ -17,7 +17,7 @@ hiddenCodes = uti ∷ reportingTime ∷ settlementDate ∷ allocation ∷ packag
 
 -- the places of the accepted full messages
 abbrev pub fullPlaces : List ℕ
-fullPlaces = 0 ∷ 1 ∷ 3 ∷ []
+fullPlaces = 0 ∷ 1 ∷ 3 ∷ 4 ∷ 7 ∷ []
 
 -- the value of a hidden element in a full message of a history
 abbrev pub hidden : List Call → ℕ → ℕ → Bytes

@@ -7,7 +7,7 @@ use Rattle.ledger.specs.declared.header.Caps.{Caps}
 use Rattle.ledger.specs.Layout.{lineSize, rowStart}
 use Rattle.submission.specs.Opening.{Limits, documentLimits}
 use Rattle.submission.specs.History.{Call, submit}
-use Rattle.witness.specs.Messages.{Hidden, newPackageSwap, extendedPackageSwap, newUnclearedSwap, inError, termination}
+use Rattle.witness.specs.Messages.{Hidden, newPackageSwap, extendedPackageSwap, revivedPackageSwap, newUnclearedSwap, correctedUnclearedSwap, termination, inError, porting}
 
 abbrev pub limits : Limits
 limits = documentLimits
@@ -55,7 +55,11 @@ left =
     ∷ submit (extendedPackageSwap northRates "2026-03-03T09:00:01Z" "250400000") (record { tape = replicate lineSize 1 })
     ∷ submit (newPackageSwap northRates "2026-03-03T09:30:00Z" "104999999") (record { tape = replicate (lineSize + 1) 0 })
     ∷ submit (newUnclearedSwap northGrain "2026-03-03T10:16:00Z" "997.5") (record { tape = replicate (lineSize + 4) 32 })
+    ∷ submit (correctedUnclearedSwap northGrain "2026-03-03T16:20:30Z" "9950") (record { tape = replicate (lineSize + 2) 48 })
+    ∷ submit (termination northGrain "2026-03-03T17:46:00Z") (record { tape = replicate lineSize 77 })
     ∷ submit (inError northRates "2026-03-04T08:00:00Z") (record { tape = replicate lineSize 0 })
+    ∷ submit (revivedPackageSwap northRates "2026-03-05T11:00:00Z" "0995000.0") (record { tape = replicate (lineSize + 8) 5 })
+    ∷ submit (porting northRates "2026-03-06T07:31:00Z") (record { tape = replicate lineSize 3 })
     ∷ []
 
 -- ---- the right history
@@ -95,5 +99,9 @@ right =
     ∷ submit (extendedPackageSwap southRates "2026-03-03T12:00:00Z" "7000000000000000000") (record { tape = replicate (lineSize + 3) 7 })
     ∷ submit (termination southGrain "2026-03-03T17:45:10Z") (record { tape = replicate (lineSize + 854) 43 })
     ∷ submit (newUnclearedSwap southGrain "2026-03-03T18:00:00Z" "1049.99999") (record { tape = replicate lineSize 10 })
+    ∷ submit (correctedUnclearedSwap southGrain "2026-03-03T18:05:00Z" "10499.99999") (record { tape = replicate (lineSize + 1) 0 })
+    ∷ submit (termination southGrain "2026-03-03T18:10:00Z") (record { tape = replicate (lineSize + 33) 200 })
     ∷ submit (inError southRates "2026-03-05T00:00:00Z") (record { tape = replicate (lineSize + 14) 9 })
+    ∷ submit (revivedPackageSwap southRates "2026-03-06T00:00:01Z" "1499999.99999") (record { tape = replicate lineSize 66 })
+    ∷ submit (porting southRates "2026-03-07T12:00:00Z") (record { tape = replicate (lineSize + 5) 1 })
     ∷ []

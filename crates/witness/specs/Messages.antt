@@ -1,11 +1,12 @@
--- The messages of both histories: what the tape shows is written out, what it does not show is a parameter.
+-- The messages of both histories: what the tape shows is written out, what it does not show is a parameter. Each has its own reporting time, and a full
+-- one its own amount.
 use Prim.Native.Nat.{ℕ}
 use Prim.Native.String.{String}
-use mathlib.Core.List.{[], _∷_}
+use mathlib.Core.List.{List, [], _∷_, _++_}
 use Rattle.octets.specs.Bytes.{Bytes}
 use Rattle.actions.specs.Actions.{actionCode}
 use Rattle.elements.specs.Codes.{uti, eventType, eventTime, reportingTime, executionTime, effectiveDate, expirationDate, settlementDate, cleared, nonStandardizedTerm, blockElection, largeNotionalElection, packageIndicator, packageIdentifier, packagePrice, priceNotation, priceCurrency, notionalAmount, notionalCurrency, settlementLocation, assetClass}
-use Rattle.witness.specs.Encoding.{encoded}
+use Rattle.witness.specs.Encoding.{Element, encoded}
 
 -- elements that only this crate speaks of by name
 abbrev pub allocation : ℕ
@@ -27,17 +28,22 @@ pub record Hidden : Type 0 where
   pub counterparty1 : String
   pub counterparty2 : String
 
--- ---- the messages: each has its own reporting time, and a full one its own amount
+-- ---- what a message shows of itself: action, event or none, event time
 
--- a swap of a package with a price in dollars
-unfoldable pub packageSwap : String → String → String → Hidden → String → String → Bytes
-packageSwap action time expiration h reported amount =
+abbrev pub withEvent : String → String → String → List Element
+withEvent action event time = (actionCode, action) ∷ (eventType, event) ∷ (eventTime, time) ∷ []
+
+abbrev pub withoutEvent : String → String → List Element
+withoutEvent action time = (actionCode, action) ∷ (eventTime, time) ∷ []
+
+-- ---- full messages of a swap of a package with a price in dollars
+
+unfoldable pub packageSwap : List Element → String → Hidden → String → String → Bytes
+packageSwap shown expiration h reported amount =
     encoded
     ((uti, h .uti)
-    ∷ (actionCode, action)
-    ∷ (eventType, "TRAD")
-    ∷ (eventTime, time)
-    ∷ (reportingTime, reported)
+    ∷ (shown
+    ++ ((reportingTime, reported)
     ∷ (executionTime, "2026-03-02T14:29:58Z")
     ∷ (effectiveDate, "2026-03-04")
     ∷ (expirationDate, expiration)
@@ -57,26 +63,29 @@ packageSwap action time expiration h reported amount =
     ∷ (counterparty1, h .counterparty1)
     ∷ (counterparty2, h .counterparty2)
     ∷ (assetClass, "IR")
-    ∷ [])
+    ∷ [])))
 
 -- it is new
 abbrev pub newPackageSwap : Hidden → String → String → Bytes
-newPackageSwap = packageSwap "NEWT" "2026-03-02T14:30:00Z" "2031-03-04"
+newPackageSwap = packageSwap (withEvent "NEWT" "TRAD" "2026-03-02T14:30:00Z") "2031-03-04"
 
 -- it is modified: it expires two years later
 abbrev pub extendedPackageSwap : Hidden → String → String → Bytes
-extendedPackageSwap = packageSwap "MODI" "2026-03-03T09:00:00Z" "2033-03-04"
+extendedPackageSwap = packageSwap (withEvent "MODI" "TRAD" "2026-03-03T09:00:00Z") "2033-03-04"
 
--- another new swap, not cleared and of no package: package name and price are sent and left out
-unfoldable pub newUnclearedSwap : Hidden → String → String → Bytes
-newUnclearedSwap h reported amount =
+-- it is revived, with its first expiration
+abbrev pub revivedPackageSwap : Hidden → String → String → Bytes
+revivedPackageSwap = packageSwap (withoutEvent "REVI" "2026-03-05T11:00:00Z") "2031-03-04"
+
+-- ---- full messages of a swap that is not cleared and of no package: package name and price are sent and left out
+
+unfoldable pub unclearedSwap : List Element → String → Hidden → String → String → Bytes
+unclearedSwap shown executed h reported amount =
     encoded
     ((uti, h .uti)
-    ∷ (actionCode, "NEWT")
-    ∷ (eventType, "TRAD")
-    ∷ (eventTime, "2026-03-03T10:15:00Z")
-    ∷ (reportingTime, reported)
-    ∷ (executionTime, "2026-03-03T10:14:30Z")
+    ∷ (shown
+    ++ ((reportingTime, reported)
+    ∷ (executionTime, executed)
     ∷ (effectiveDate, "2026-04-01")
     ∷ (expirationDate, "2027-04-01")
     ∷ (settlementDate, h .settlement)
@@ -93,25 +102,29 @@ newUnclearedSwap h reported amount =
     ∷ (counterparty1, h .counterparty1)
     ∷ (counterparty2, h .counterparty2)
     ∷ (assetClass, "CO")
-    ∷ [])
+    ∷ [])))
 
--- a swap was reported in error; there is no event
-unfoldable pub inError : Hidden → String → Bytes
-inError h reported =
-    encoded
-    ((uti, h .uti)
-    ∷ (actionCode, "EROR")
-    ∷ (eventTime, "2026-03-04T08:00:00Z")
-    ∷ (reportingTime, reported)
-    ∷ [])
+-- it is new
+abbrev pub newUnclearedSwap : Hidden → String → String → Bytes
+newUnclearedSwap = unclearedSwap (withEvent "NEWT" "TRAD" "2026-03-03T10:15:00Z") "2026-03-03T10:14:30Z"
+
+-- it is corrected: it was executed earlier
+abbrev pub correctedUnclearedSwap : Hidden → String → String → Bytes
+correctedUnclearedSwap = unclearedSwap (withoutEvent "CORR" "2026-03-03T16:20:00Z") "2026-03-03T10:14:03Z"
+
+-- ---- short messages
+
+unfoldable pub shortMessage : List Element → Hidden → String → Bytes
+shortMessage shown h reported = encoded ((uti, h .uti) ∷ (shown ++ ((reportingTime, reported) ∷ [])))
 
 -- a swap is terminated early
-unfoldable pub termination : Hidden → String → Bytes
-termination h reported =
-    encoded
-    ((uti, h .uti)
-    ∷ (actionCode, "TERM")
-    ∷ (eventType, "ETRM")
-    ∷ (eventTime, "2026-03-03T17:45:00Z")
-    ∷ (reportingTime, reported)
-    ∷ [])
+abbrev pub termination : Hidden → String → Bytes
+termination = shortMessage (withEvent "TERM" "ETRM" "2026-03-03T17:45:00Z")
+
+-- a swap was reported in error
+abbrev pub inError : Hidden → String → Bytes
+inError = shortMessage (withoutEvent "EROR" "2026-03-04T08:00:00Z")
+
+-- a swap is ported to another repository
+abbrev pub porting : Hidden → String → Bytes
+porting = shortMessage (withEvent "PRTO" "PTNG" "2026-03-06T07:30:00Z")

@@ -11,7 +11,7 @@ use Rattle.price.proofs.price_at.Tie as tie
 returns : tie.Need-returns
 returns c =
     let s = c .before .before .before .before .before .before in
-    lent-filled _ _ _ _ (λ k. field k (shownPrice (now (s .args .v)))) (λ k. length-field k _) (s .pre) (c .before .before .write-price .ensures)
+    lent-filled _ _ _ _ (λ k. field k (shownPrice (now (s .args .v)))) (λ k. length-field k _) (s .pre) (c .before .before .write-price .ensures .0)
 
 pub price-at-spec : {M : Type 1} → statement M
 price-at-spec =

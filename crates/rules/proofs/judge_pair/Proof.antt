@@ -12,7 +12,7 @@ use Rattle.rules.proofs.judge_pair.Statement.{statement}
 use Rattle.rules.proofs.judge_pair.Tie as tie
 
 pair : (c : tie.After-is-pair) → c .is-pair .result ≡ pairAllowed (c .before .before .before .args .action) (value eventType (now (c .before .before .before .args .m)))
-pair c = c .is-pair .ensures ∙ ap (pairAllowed _) (c .before .element .ensures .0)
+pair c = c .is-pair .ensures .0 ∙ ap (pairAllowed _) (c .before .element .ensures .0)
 
 returns : tie.Need-returns
 unfolding judgedFrom rulesOf fromRule firstBroken

@@ -9,7 +9,7 @@ use Rattle.octets.proofs.FieldLaws.{field-exact}
 use Rattle.elements.specs.Codes.{notionalAmount}
 use Rattle.elements.specs.Conditions.{kept}
 use Rattle.notional.specs.Amount.{amount}
-use Rattle.notional.specs.Masking.{over, shown}
+use Rattle.notional.specs.Masking.{shown}
 use Rattle.terms.specs.Terms.{markSize, notionalSize, plusText}
 use Rattle.octets.proofs.FieldRun.{then-written, last-written}
 use borrow.Author.Needs.{needs}
@@ -22,19 +22,15 @@ returns c =
     let third = fourth .before .before .before .before in
     let second = third .before .before .before .before in
     let first = second .before .before .before .before in
-    let mask = first .before .before .before .before .mask in
-    let a = first .before .before .before .before .before .before .before .before .args in
-    let value = first .before .before .before .before .before .kept .ensures .0 in
-    let units = mask .ensures .0 ∙ ap (λ v. shown (a .cap) (amount v)) value in
-    let plus = mask .ensures .1 ∙ ap (λ v. over (a .cap) (amount v)) value in
-    let text : digits notionalSize (mask .result .units) ≡ field notionalSize (digits notionalSize (shown (a .cap) (amount (kept notionalAmount (now (a .m)))))) = ap (digits notionalSize) units ∙ sym (field-exact notionalSize _ (length-digits notionalSize _)) in
-    then-written _ _ _ _ (first .before .before .text-at .ensures) (then-written _ _ _ _ (second .before .before .digits-at .ensures ∙ ap (splice _ _) text) (then-written _ _ _ _ (third .before .before .plus-at .ensures ∙ ap (splice _ _) (ap (λ p. field markSize (plusText p)) plus)) (then-written _ _ _ _ (fourth .before .before .text-at2 .ensures) (last-written _ _ _ (c .before .before .text-at3 .ensures)))))
+    let masked = first .before .before .before .before .mask-amount .ensures in
+    let a = first .before .before .before .before .before .before .before .args in
+    let text : digits notionalSize _ ≡ field notionalSize (digits notionalSize (shown (a .cap) (amount (kept notionalAmount (now (a .m)))))) = ap (digits notionalSize) (masked .0) ∙ sym (field-exact notionalSize _ (length-digits notionalSize _)) in
+    then-written _ _ _ _ (first .before .before .text-at .ensures) (then-written _ _ _ _ (second .before .before .digits-at .ensures ∙ ap (splice _ _) text) (then-written _ _ _ _ (third .before .before .plus-at .ensures ∙ ap (splice _ _) (ap (λ p. field markSize (plusText p)) (masked .1))) (then-written _ _ _ _ (fourth .before .before .text-at2 .ensures) (last-written _ _ _ (c .before .before .text-at3 .ensures)))))
 
 pub write-notional-spec : {M : Type 1} → statement M
 write-notional-spec =
     tie.close
     (tie.spec
-    (λ c κs. search needs)
     (λ c κs. search needs)
     (λ c κs. search needs)
     (λ c κs. search needs)

@@ -1,5 +1,6 @@
 -- `terms::write_terms` meets its contract. Assumes nothing.
 use Rattle.octets.proofs.FieldRun.{then-group}
+use Rattle.terms.proofs.PublicLaws.{terms-public}
 use Rattle.terms.proofs.TermLaws.{terms-written}
 use borrow.Author.Needs.{needs}
 use Rattle.terms.proofs.write_terms.Statement.{statement}
@@ -11,11 +12,11 @@ returns c =
     let second = third .before .before .before .before in
     let first = second .before .before .before .before in
     let start = first .before .before .before .before .before .before .before in
-    terms-written _ _ _ (start .pre .0)
+    (terms-written _ _ _ (start .pre .0)
     (then-group _ _ _ _ (first .before .before .write-dates .ensures)
     (then-group _ _ _ _ (second .before .before .write-truths .ensures)
     (then-group _ _ _ _ (third .before .before .write-quote .ensures)
-    (c .before .before .write-notional .ensures))))
+    (c .before .before .write-notional .ensures)))), terms-public)
 
 pub write-terms-spec : {M : Type 1} → statement M
 write-terms-spec =

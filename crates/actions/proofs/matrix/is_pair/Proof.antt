@@ -10,6 +10,7 @@ use Rattle.octets.proofs.SameLaws.{row, wide, among}
 use Rattle.values.specs.Limits.{eventSize}
 use Rattle.actions.specs.Table.{events}
 use Rattle.actions.specs.Matrix.{noEvent, tick, pairAllowed}
+use Rattle.actions.proofs.MatrixLaws.{named-pairs}
 use borrow.Author.Needs.{needs}
 use Rattle.actions.proofs.matrix.is_pair.Statement.{statement}
 use Rattle.actions.proofs.matrix.is_pair.Tie as tie
@@ -21,7 +22,7 @@ column c = c .place-in .ensures ∙ among eventSize events (now (c .before .befo
 
 returns : tie.Need-returns
 unfolding pairAllowed
-returns c = rw (eq-eqb _ _ (c .before .if1 .taken)) (c .has-tick .ensures)
+returns c = (rw (eq-eqb _ _ (c .before .if1 .taken)) (c .has-tick .ensures), named-pairs)
 
 returns-2 : tie.Need-returns-2
 unfolding pairAllowed oneOf
@@ -29,7 +30,7 @@ returns-2 c =
     let p = column (c .before .before) in
     let event = now (c .before .before .before .before .before .before .args .event) in
     let h : place events event < noEvent = omega arith in
-    rw (ne-eqb _ _ (c .before .before .before .before .if1 .left), lt-ltb _ _ h) (c .has-tick2 .ensures ∙ ap (tick _) p)
+    (rw (ne-eqb _ _ (c .before .before .before .before .if1 .left), lt-ltb _ _ h) (c .has-tick2 .ensures ∙ ap (tick _) p), named-pairs)
 
 returns-3 : tie.Need-returns-3
 unfolding pairAllowed oneOf
@@ -37,7 +38,7 @@ returns-3 c =
     let p = column (c .before) in
     let event = now (c .before .before .before .before .before .args .event) in
     let h : noEvent ≤ place events event = omega arith in
-    rw (ne-eqb _ _ (c .before .before .before .if1 .left), le-ltb _ _ h)
+    (rw (ne-eqb _ _ (c .before .before .before .if1 .left), le-ltb _ _ h), named-pairs)
 
 pub is-pair-spec : {M : Type 1} → statement M
 is-pair-spec =

@@ -11,7 +11,7 @@ returns : tie.Need-returns
 returns c =
     let w = c .before .before in
     let i = w .before .before in
-    rw (sym (i .before .is-full .ensures) ∙ i .if1 .taken) (w .write-terms .ensures)
+    rw (sym (i .before .is-full .ensures) ∙ i .if1 .taken) (w .write-terms .ensures .0)
 
 copy-requires : tie.Need-copy-requires
 copy-requires c κs =

@@ -6,7 +6,7 @@ use Rattle.rules.proofs.checks.is_element_before.Statement.{statement}
 use Rattle.rules.proofs.checks.is_element_before.Tie as tie
 
 returns : tie.Need-returns
-returns c = c .is-before .ensures ∙ ap₂ before (c .before .before .element .ensures .0) (c .before .element2 .ensures .0)
+returns c = c .is-before .ensures .0 ∙ ap₂ before (c .before .before .element .ensures .0) (c .before .element2 .ensures .0)
 
 pub is-element-before-spec : {M : Type 1} → statement M
 is-element-before-spec =
