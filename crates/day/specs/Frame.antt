@@ -34,7 +34,7 @@ frameOf longest xs =
     Partial
 
 -- a message lies within the input; what is not whole is shorter than the longest
-abbrev pub Fits : Bytes → Frame → Type 0
-Fits xs (Message n) = lengthSize + n ≤ length xs
-Fits xs (Overlong n) = lengthSize + n ≤ length xs
-Fits xs Partial = length xs < longestFrame
+abbrev pub WithinInput : Bytes → Frame → Type 0
+WithinInput xs (Message n) = lengthSize + n ≤ length xs
+WithinInput xs (Overlong n) = lengthSize + n ≤ length xs
+WithinInput xs Partial = length xs < longestFrame

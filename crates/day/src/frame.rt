@@ -3,7 +3,7 @@ ghost use mathlib.Core.Path.{_≡_};
 ghost use Prim.Native.Nat.{_+_, _≤_};
 ghost use lib.ListN.{length};
 ghost use Rattle.octets.specs.Part.{part, splice};
-ghost use Rattle.day.specs.Frame.{frameOf, Fits};
+ghost use Rattle.day.specs.Frame.{frameOf, WithinInput};
 use octets::read_at;
 
 // The bytes of a length, and of the longest message with its length.
@@ -21,7 +21,7 @@ pub enum Frame {
 // Reads the length at the front, and looks whether so many bytes have come.
 pub fn next_frame(input: &[u8], longest: usize) -> Frame
     ensures { λ r. ⌜ r ≡ frameOf longest (now (input .entry)) ⌝ }
-    ensures { λ r. ⌜ Fits (now (input .entry)) r ⌝ }
+    ensures { λ r. ⌜ WithinInput (now (input .entry)) r ⌝ }
 {
     if input.len() < LENGTH_SIZE {
         return Frame::Partial;

@@ -3,13 +3,16 @@ use Prim.Native.Nat.{ℕ, zero, suc, _+_, _<_, _≤_}
 use mathlib.Core.Bool.{Bool, true, false}
 use mathlib.Core.Path.{_≡_, refl, sym, ap, _∙_}
 use mathlib.Core.Logic.{⊎-elim}
-use mathlib.Core.List.{_++_}
+use mathlib.Core.List.{[], _++_, append-assoc}
+use native.Mathlib.Nat.{zero-add}
+use native.Mathlib.Decide.{decLt}
 use native.Mathlib.Omega.{arith}
 use borrow.Author.Tests.{ne-eqb}
 use lib.ListN.{length, take, drop, length-drop}
 use lib.Seq.{take-append-le, drop-append-le}
-use lib.Dec.{eqb}
+use lib.Dec.{eqb, leb}
 use Rattle.octets.specs.Bytes.{Bytes}
+use Rattle.octets.specs.Choice.{choose}
 use Rattle.octets.specs.Part.{part}
 use Rattle.submission.specs.Opening.{documentLimits}
 use Rattle.submission.specs.Submission.{submitted}
@@ -18,7 +21,8 @@ use Rattle.day.specs.declared.frame.Frame.the-variants.{Message, Overlong, Part
 use Rattle.day.specs.Frame.{lengthSize, lengthOf, isWhole, frameOf}
 use Rattle.day.proofs.FrameLaws.{whole-length, whole-frame, frame-more}
 use Rattle.dayrun.specs.Day.{Day, Step, answered, stepOn, step, afterMessages, restAfter, reportFrom}
-use Rattle.dayrun.specs.Blocks.{Judged-at-once}
+use Rattle.dayrun.specs.Progress.{writeSize, waitingWith, writtenWith, waitingAfter, writtenAfter}
+use Rattle.dayrun.specs.Blocks.{Judged-at-once, Nothing-lost}
 
 -- ---- a step, by what stands at the front
 
@@ -27,7 +31,7 @@ unfolding step
 step-on d xs f e = ap (stepOn d xs) e
 
 -- a step that takes nothing changes nothing, any other counts one message
-none-taken : (d : Day) (xs : Bytes) (f : Frame) → stepOn d xs f .taken ≡ 0 → stepOn d xs f .after ≡ d
+none-taken : (d : Day) (xs : Bytes) (f : Frame) → stepOn d xs f .taken ≡ 0 → stepOn d xs f ≡ stepOn d xs Partial
 none-taken d xs (Message n) e = absurd (omega (arith, e))
 none-taken d xs (Overlong n) e = absurd (omega (arith, e))
 none-taken d xs Partial e = refl
@@ -37,7 +41,7 @@ some-taken d xs (Message n) h = refl
 some-taken d xs (Overlong n) h = refl
 some-taken d xs Partial h = absurd (omega (arith, h))
 
-pub step-none : (d : Day) (xs : Bytes) → step d xs .taken ≡ 0 → step d xs .after ≡ d
+pub step-none : (d : Day) (xs : Bytes) → step d xs .taken ≡ 0 → step d xs ≡ stepOn d xs Partial
 unfolding step
 step-none d xs e = none-taken d xs (frameOf (documentLimits .longest) xs) e
 
@@ -93,6 +97,12 @@ not-whole-left d xs z = not-true (isWhole xs) (λ e. absurd (omega (arith, z, st
     not-true true f = absurd (f refl)
     not-true false f = refl
 
+-- and a message is whole where a step takes something
+some-whole : (d : Day) (xs : Bytes) (b : Bool) → isWhole xs ≡ b → 0 < step d xs .taken → isWhole xs ≡ true
+unfolding frameOf
+some-whole d xs true e h = e
+some-whole d xs false e h = absurd (omega (arith, h, ap (λ (s : Step). s .taken) (step-on d xs Partial (rw e))))
+
 pub judged-at-once : Judged-at-once
 unfolding reportFrom
 judged-at-once k d xs ys e =
@@ -101,3 +111,50 @@ judged-at-once k d xs ys e =
     let some : eqb (step d xs .taken) 0 ≡ false = ne-eqb (step d xs .taken) 0 (λ z. omega (arith, n, z)) in
     let rest : drop (step d xs .taken) (xs ++ ys) ≡ drop (step d xs .taken) xs ++ ys = drop-append-le (step d xs .taken) xs ys (omega (arith, n, h .1)) in
     rw (step-more d xs ys e, some, rest)
+
+-- ---- no line is lost
+
+step-most : (d : Day) (xs : Bytes) → step d xs .after .judged ≤ d .judged + 1
+step-most d xs =
+    elim (decLt 0 (step d xs .taken)) [
+      | yes h ↦ omega (arith, step-one d xs h)
+      | no h ↦ omega (arith, ap (λ (s : Step). s .after .judged) (step-none d xs (omega (arith, h))))
+    ]
+
+after-most : (k : ℕ) (d : Day) (xs : Bytes) → afterMessages k d xs .judged ≤ d .judged + k
+unfolding afterMessages
+after-most zero d xs = omega arith
+after-most (suc k) d xs = omega (arith, after-most k (step d xs .after) (drop (step d xs .taken) xs), step-most d xs)
+
+-- where each step counts a message, the first takes one
+first-taken : (k : ℕ) (d : Day) (xs : Bytes) → afterMessages (suc k) d xs .judged ≡ d .judged + suc k → 0 < step d xs .taken
+unfolding afterMessages
+first-taken k d xs e =
+    elim (decLt 0 (step d xs .taken)) [
+      | yes h ↦ h
+      | no h ↦
+          let stays : step d xs .after .judged ≡ d .judged = ap (λ (s : Step). s .after .judged) (step-none d xs (omega (arith, h))) in
+          absurd (omega (arith, e, stays, after-most k (step d xs .after) (drop (step d xs .taken) xs)))
+    ]
+
+-- written out or not, it is all there
+split : (b : Bool) (xs ys : Bytes) → xs ++ ys ≡ choose b xs [] ++ (choose b [] xs ++ ys)
+split true xs ys = refl
+split false xs ys = refl
+
+pub nothing-lost : Nothing-lost
+unfolding afterMessages restAfter waitingAfter writtenAfter
+nothing-lost zero j d xs ys waiting e = ap (λ (n : ℕ). waiting ++ reportFrom n d (xs ++ ys)) (zero-add j)
+nothing-lost (suc k) j d xs ys waiting e =
+    let s : Step = step d xs in
+    let rest : Bytes = drop (s .taken) xs in
+    let more : Bytes = reportFrom (k + j) (s .after) (rest ++ ys) in
+    let out : Bytes = writtenWith waiting (s .line) in
+    let h : 0 < s .taken = first-taken k d xs e in
+    let n : suc k + j ≡ suc (k + j) = omega arith in
+    ap (λ (i : ℕ). waiting ++ reportFrom i d (xs ++ ys)) n
+    ∙ ap (λ (l : Bytes). waiting ++ l) (judged-at-once (k + j) d xs ys (some-whole d xs (isWhole xs) refl h))
+    ∙ sym (append-assoc waiting (s .line) more)
+    ∙ split (leb writeSize (length (waiting ++ s .line))) (waiting ++ s .line) more
+    ∙ ap (λ (l : Bytes). out ++ l) (nothing-lost k j (s .after) rest ys (waitingWith waiting (s .line)) (omega (arith, e, step-one d xs h)))
+    ∙ sym (append-assoc out (writtenAfter k (s .after) rest (waitingWith waiting (s .line))) _)

@@ -1,10 +1,13 @@
 -- The program's own state: how far the day has come, and what waits to be written. No sentence of document 01.
-use Prim.Native.Nat.{ℕ, _+_, _-_, _<_, _≤_}
+use Prim.Native.Nat.{ℕ, zero, suc, _+_, _-_, _<_, _≤_}
 use mathlib.Core.Bool.{Bool, true, false}
 use mathlib.Core.Path.{_≡_}
+use mathlib.Core.List.{[], _++_}
 use lib.ListN.{length, drop}
+use lib.Dec.{leb}
 use Rattle.octets.specs.Bytes.{Bytes}
 use Rattle.octets.specs.Choice.{choose}
+use Rattle.octets.specs.Part.{part}
 use Rattle.dayrun.specs.declared.judging.Progress.{Progress}
 use Rattle.submission.specs.Lent.{Lent}
 use Rattle.day.specs.Frame.{longestFrame, isWhole}
@@ -28,11 +31,34 @@ abbrev pub progressAfter : Progress → Step → Progress
 progressAfter p s =
     record { at = p .at + s .taken; used = p .used + length (s .line); judged = s .after .judged; published = s .after .published; «is_open» = p .«is_open» }
 
--- from p₀ to p the messages of the input were judged, one after the other: so many as were counted, and none was left out
-pub record Reached (lent₀ : Lent) (input : Bytes) (p₀ : Progress) (lent : Lent) (p : Progress) : Type 0 where
+-- as many bytes are written at a time
+abbrev pub writeSize : ℕ
+writeSize = 32_768
+
+-- one line more: where that is enough, all is written out and nothing waits
+abbrev pub waitingWith : Bytes → Bytes → Bytes
+waitingWith waiting line = choose (leb writeSize (length (waiting ++ line))) [] (waiting ++ line)
+
+abbrev pub writtenWith : Bytes → Bytes → Bytes
+writtenWith waiting line = choose (leb writeSize (length (waiting ++ line))) (waiting ++ line) []
+
+-- what waits after k messages of the input, and what was written out with them
+unfoldable pub waitingAfter : ℕ → Day → Bytes → Bytes → Bytes
+waitingAfter zero d xs waiting = waiting
+waitingAfter (suc k) d xs waiting = waitingAfter k (step d xs .after) (drop (step d xs .taken) xs) (waitingWith waiting (step d xs .line))
+
+unfoldable pub writtenAfter : ℕ → Day → Bytes → Bytes → Bytes
+writtenAfter zero d xs waiting = []
+writtenAfter (suc k) d xs waiting =
+    writtenWith waiting (step d xs .line) ++ writtenAfter k (step d xs .after) (drop (step d xs .taken) xs) (waitingWith waiting (step d xs .line))
+
+-- from p₀ to p the messages of the input were judged, one after the other: so many as were counted, and none was left out; their
+-- lines stand behind what waited
+pub record JudgedUpTo (lent₀ : Lent) (input out₀ : Bytes) (p₀ : Progress) (lent : Lent) (out : Bytes) (p : Progress) : Type 0 where
   pub counted : p₀ .judged ≤ p .judged
   pub day : dayOf lent p ≡ afterMessages (p .judged - p₀ .judged) (dayOf lent₀ p₀) (drop (p₀ .at) input)
   pub rest : drop (p .at) input ≡ restAfter (p .judged - p₀ .judged) (dayOf lent₀ p₀) (drop (p₀ .at) input)
+  pub waiting : part out 0 (p .used) ≡ waitingAfter (p .judged - p₀ .judged) (dayOf lent₀ p₀) (drop (p₀ .at) input) (part out₀ 0 (p₀ .used))
 
 -- before the first message: the first line waits
 abbrev pub atStart : Progress
@@ -48,10 +74,6 @@ written writes told p =
     record { at = p .at; used = choose writes 0 (p .used); judged = p .judged; published = p .published; «is_open» = choose writes told (p .«is_open») }
 
 -- ---- bounds
-
--- as many bytes are written at a time
-abbrev pub writeSize : ℕ
-writeSize = 32_768
 
 -- as many bytes are read at a time
 abbrev pub blockSize : ℕ

@@ -2,6 +2,7 @@
 ghost use mathlib.Core.Bool.{true};
 ghost use mathlib.Core.Path.{_≡_};
 ghost use lib.Dec.{leb};
+ghost use Rattle.octets.specs.Part.{part};
 ghost use Rattle.dayrun.specs.Progress.{writeSize, written};
 use crate::judging::Progress;
 use day::LONGEST_LINE;
@@ -13,12 +14,18 @@ pub const WRITE_SIZE: usize = 32_768;
 
 pub const OUTPUT_SIZE: usize = WRITE_SIZE + LONGEST_LINE;
 
+// The bytes of the report that wait to be written.
+pub fn waiting<'a>(out: &'a [u8], used: usize) -> &'a [u8]
+    ensures { λ r. ⌜ now r ≡ part (now (out .entry)) 0 used ⌝ }
+{
+    part_of(out, 0, used)
+}
+
 // Writes out what waits.
 pub fn write_out(out: &[u8], p: Progress) -> Progress
     ensures { λ r. ⌜ r ≡ written true (r .«is_open») p ⌝ }
 {
-    let waiting = part_of(out, 0, p.used);
-    let is_written = io::write_all(STDOUT_FILENO, waiting);
+    let is_written = io::write_all(STDOUT_FILENO, waiting(out, p.used));
     Progress {
         at: p.at,
         used: 0,

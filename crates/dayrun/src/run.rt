@@ -9,12 +9,14 @@ ghost use Rattle.submission.specs.Lent.{lentOf};
 ghost use Rattle.day.specs.Frame.{longestFrame};
 ghost use Rattle.day.specs.Report.{heading, longestLine, lastLine};
 ghost use Rattle.dayrun.specs.Day.{newDay};
-ghost use Rattle.dayrun.specs.Progress.{writeSize, blockSize, Reached, Within, Leaves, atStart, atFront, written};
+ghost use Rattle.dayrun.specs.Blocks.{Nothing-lost};
+ghost use Rattle.dayrun.specs.Progress.{writeSize, blockSize, JudgedUpTo, Within, Leaves, atStart, atFront, written};
 use crate::input::can_wait;
 use crate::input::keep_rest;
 use crate::input::read_block;
 use crate::judging::Progress;
 use crate::judging::judge_next;
+use crate::output::waiting;
 use crate::output::write_enough;
 use crate::output::write_out;
 use day::write_heading;
@@ -52,7 +54,7 @@ fn finish(out: &mut [u8], p: Progress, kept: usize)
 {
     if p.is_open {
         let used = write_last(out, p.used, 0 < kept, p.judged, p.published);
-        io::write_all(libc::STDOUT_FILENO, part_of(out, 0, used));
+        io::write_all(libc::STDOUT_FILENO, waiting(out, used));
     }
 }
 
@@ -66,9 +68,10 @@ fn judge_block(
 ) -> Progress
     requires { ⌜ Within (length (now input)) writeSize start ⌝ }
     requires { ⌜ writeSize + longestLine ≤ length (now out) ⌝ }
-    ensures { λ r. ⌜ Reached (lentOf (now (ledger .entry)) (now (tape .entry))) (now (input .entry)) start (lentOf (now (ledger .exit)) (now (tape .exit))) r ⌝ }
+    ensures { λ r. ⌜ JudgedUpTo (lentOf (now (ledger .entry)) (now (tape .entry))) (now (input .entry)) (now (out .entry)) start (lentOf (now (ledger .exit)) (now (tape .exit))) (now (out .exit)) r ⌝ }
     ensures { λ r. ⌜ Within (length (now (input .entry))) writeSize r ⌝ }
     ensures { λ r. ⌜ Leaves (now (input .entry)) r ⌝ }
+    ensures { λ _. ⌜ Nothing-lost ⌝ }
 {
     let mut p = start;
     while p.is_open && p.judged < MOST_MESSAGES {

@@ -15,7 +15,7 @@ use Rattle.submission.specs.Submission.{Submitted, submitted, refused}
 use Rattle.rules.specs.Verdicts.{layoutWrong}
 use Rattle.repository.specs.Answers.{submissionAnswer}
 use Rattle.day.specs.declared.frame.Frame.the-variants.{Message, Overlong, Partial}
-use Rattle.day.specs.Frame.{lengthSize, frameOf, longestFrame, Fits}
+use Rattle.day.specs.Frame.{lengthSize, frameOf, longestFrame, WithinInput}
 use Rattle.dayrun.specs.Day.{Step, answered, stepOn}
 use Rattle.dayrun.specs.Progress.{dayOf, stepAt, progressAfter}
 use Rattle.dayrun.proofs.DayLaws.{step-on, judged-at-once}
@@ -37,18 +37,18 @@ all-lent xs at = take-all (length xs - at) (drop at xs) (omega (arith, length-dr
 front : (c : tie.After-next-frame) → c .next-frame .result ≡ frameOf (documentLimits .longest) (rest c)
 front c = c .next-frame .ensures .0 ∙ ap (frameOf (documentLimits .longest)) (all-lent (now (start c .args .input)) (start c .args .p .at))
 
-fits : (c : tie.After-next-frame) → Fits (rest c) (c .next-frame .result)
-fits c = subst (λ (xs : Bytes). Fits xs (c .next-frame .result)) (all-lent (now (start c .args .input)) (start c .args .p .at)) (c .next-frame .ensures .1)
+fits : (c : tie.After-next-frame) → WithinInput (rest c) (c .next-frame .result)
+fits c = subst (λ (xs : Bytes). WithinInput xs (c .next-frame .result)) (all-lent (now (start c .args .input)) (start c .args .p .at)) (c .next-frame .ensures .1)
 
 -- the message, or the one that is too long, lies within the input
 lies-within : (xs : Bytes) (at n : ℕ) → at ≤ length xs → n ≤ length (drop at xs) → at + n ≤ length xs
 lies-within xs at n h l = omega (arith, h, l, length-drop at xs)
 
 message-fits : (c : tie.After-n) → start (c .before .before) .args .p .at + (lengthSize + c .n .given .0 .0) ≤ length (now (start (c .before .before) .args .input))
-message-fits c = lies-within _ _ _ (start (c .before .before) .pre .0) (subst (Fits (rest (c .before .before))) (c .n .given .1) (fits (c .before .before)))
+message-fits c = lies-within _ _ _ (start (c .before .before) .pre .0) (subst (WithinInput (rest (c .before .before))) (c .n .given .1) (fits (c .before .before)))
 
 overlong-fits : (c : tie.After-n2) → start (c .before .before) .args .p .at + (lengthSize + c .n2 .given .0 .0) ≤ length (now (start (c .before .before) .args .input))
-overlong-fits c = lies-within _ _ _ (start (c .before .before) .pre .0) (subst (Fits (rest (c .before .before))) (c .n2 .given .1) (fits (c .before .before)))
+overlong-fits c = lies-within _ _ _ (start (c .before .before) .pre .0) (subst (WithinInput (rest (c .before .before))) (c .n2 .given .1) (fits (c .before .before)))
 
 add-report : tie.Need-add-report
 add-report c = omega (arith, message-fits (c .before .before .before .before .before .before .before .before .before .before))
@@ -113,7 +113,7 @@ returns-3 c =
     let a = start f .args in
     let told : stepAt (lentOf (now (a .ledger)) (now (a .tape))) (now (a .input)) (a .p) ≡ stepOn (dayOf (lentOf (now (a .ledger)) (now (a .tape))) (a .p)) (rest f) Partial =
     step-on _ (rest f) Partial (sym (front f) ∙ c .enum-told .given .1) in
-    let short : length (rest f) < longestFrame = subst (Fits (rest f)) (c .enum-told .given .1) (fits f) in (
+    let short : length (rest f) < longestFrame = subst (WithinInput (rest f)) (c .enum-told .given .1) (fits f) in (
       unmoved (lentOf (now (a .ledger)) (now (a .tape))) (rest f) (a .p) ∙ ap (progressAfter (a .p)) (sym told),
       (
         sym (splice-none (now (a .out)) (a .p .used)) ∙ ap (λ (x : Step). splice (now (a .out)) (a .p .used) (x .line)) (sym told),

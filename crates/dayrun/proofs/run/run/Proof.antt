@@ -87,7 +87,7 @@ loop-again c =
       omega (arith, l .4, came, moved),
       omega (arith, l .5, said),
       front-within _ writeSize _ _ (c .from-front .ensures) (j .judge-block .ensures .1 .0),
-      front-leaves (now (j .before .before .part-of .result)) _ (j .judge-block .result) _ (c .from-front .ensures) (omega (arith, k .keep-rest .ensures .1, size (j .before .before))) (j .judge-block .ensures .1 .1),
+      front-leaves (now (j .before .before .part-of .result)) _ (j .judge-block .result) _ (c .from-front .ensures) (omega (arith, k .keep-rest .ensures .1, size (j .before .before))) (j .judge-block .ensures .1 .1 .0),
     )
 
 finish-requires-2 : tie.Need-finish-requires-2 Inv-loop μ-loop
