@@ -47,7 +47,7 @@ CITED = {
         "Accepted-exactly",
         "Acceptance-writes",
         "Same-tapes",
-        "Tape-told",
+        "Tape-published",
         "Identifier-with-line",
         "Identifier-counts",
         "Quiet-call",

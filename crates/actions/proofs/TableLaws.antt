@@ -15,7 +15,7 @@ use Rattle.octets.proofs.SearchLaws.{all-at}
 use Rattle.actions.specs.declared.Action.{Action}
 use Rattle.actions.specs.declared.Action.the-variants.{Newt, Modi, Corr, Term, Eror, Revi, Prto}
 use Rattle.actions.specs.Statuses.{ported, noStep}
-use Rattle.actions.specs.Table.{rowOf, allActions, actionAt}
+use Rattle.actions.specs.Table.{actionRow, allActions, actionAt}
 use Rattle.actions.specs.Actions.{stepFrom, nextStatus}
 
 -- the n numbers from k on
@@ -74,4 +74,4 @@ none-after (step ∷ steps) s h e =
 
 pub step-none : (a : Action) (s : ℕ) → ported < s → nextStatus a s ≡ noStep
 unfolding allFrom
-step-none a s h = none-after (rowOf a .steps) s h (every (λ b. within (rowOf b .steps)) refl a)
+step-none a s h = none-after (actionRow a .steps) s h (every (λ b. within (actionRow b .steps)) refl a)

@@ -8,7 +8,7 @@ use lib.ListN.{length}
 use lib.Dec.{eqb}
 use Rattle.octets.specs.Bytes.{Bytes}
 use Rattle.octets.specs.Choice.{choose}
-use Rattle.octets.specs.Same.{beside}
+use Rattle.octets.specs.Same.{lookUp}
 use Rattle.actions.specs.declared.Action.{Action}
 use Rattle.actions.specs.declared.table.Kind.{Kind}
 use Rattle.actions.specs.declared.table.Kind.the-variants.{Full, Short}
@@ -16,19 +16,19 @@ use Rattle.actions.specs.declared.Checked.{Checked}
 use Rattle.actions.specs.declared.Checked.the-variants.{Fault, Value}
 use Rattle.actions.specs.declared.table.Columns.{Columns}
 use Rattle.actions.specs.Statuses.{noStep, statuses}
-use Rattle.actions.specs.Table.{rowOf, allActions, actionAt}
+use Rattle.actions.specs.Table.{actionRow, allActions, actionAt}
 
 -- the element that holds the action
-abbrev pub actionCode : ℕ
-actionCode = 2
+abbrev pub actionType : ℕ
+actionType = 2
 
 -- codes are matched byte for byte; TERM is not term
 abbrev pub actionCodes : List (String × Checked)
-actionCodes = map (λ a. (rowOf a .text, Value a)) allActions
+actionCodes = map (λ a. (actionRow a .text, Value a)) allActions
 
 -- what the value of the element says: one of the seven, or the element is at fault
 unfoldable pub actionOf : Bytes → Checked
-actionOf v = beside actionCodes (Fault actionCode) v
+actionOf v = lookUp actionCodes (Fault actionType) v
 
 -- "full" means messages whose action is NEWT, MODI, CORR or REVI
 abbrev pub isFullKind : Kind → Bool
@@ -36,19 +36,19 @@ isFullKind Full = true
 isFullKind Short = false
 
 abbrev pub isFull : Action → Bool
-isFull a = isFullKind (rowOf a .kind)
+isFull a = isFullKind (actionRow a .kind)
 
 -- an accepted message of the action writes a line
 abbrev pub writesLine : Action → Bool
-writesLine a = rowOf a .line
+writesLine a = actionRow a .line
 
 -- the action is a new swap's; any other is for a swap that has a row
 abbrev pub isNew : Action → Bool
-isNew a = rowOf a .new
+isNew a = actionRow a .new
 
 -- a message of the action repeats the stored execution timestamp
 abbrev pub repeatsTime : Action → Bool
-repeatsTime a = rowOf a .repeats
+repeatsTime a = actionRow a .repeats
 
 -- the status after the step from s, where there is one
 abbrev pub stepFrom : List (ℕ × ℕ) → ℕ → ℕ
@@ -56,15 +56,15 @@ stepFrom [] s = noStep
 stepFrom (step ∷ steps) s = choose (eqb s (step .0)) (step .1) (stepFrom steps s)
 
 abbrev pub nextStatus : Action → ℕ → ℕ
-nextStatus a s = stepFrom (rowOf a .steps) s
+nextStatus a s = stepFrom (actionRow a .steps) s
 
 -- the columns that the code has by action are those of its row
 abbrev pub IsRow : Action → Columns → Type 0
 IsRow a c =
     (c .place < length allActions)
     × (actionAt (c .place) ≡ a)
-    × (c .kind ≡ rowOf a .kind)
-    × (c .new ≡ rowOf a .new)
-    × (c .line ≡ rowOf a .line)
-    × (c .repeats ≡ rowOf a .repeats)
+    × (c .kind ≡ actionRow a .kind)
+    × (c .new ≡ actionRow a .new)
+    × (c .line ≡ actionRow a .line)
+    × (c .repeats ≡ actionRow a .repeats)
     × (c .steps ≡ map (nextStatus a) statuses)

@@ -11,14 +11,14 @@ use Rattle.octets.specs.Text.{text}
 use Rattle.octets.specs.Same.{place, oneOf}
 use Rattle.actions.specs.declared.Action.{Action}
 use Rattle.actions.specs.declared.Action.the-variants.{Newt, Modi, Term, Prto}
-use Rattle.actions.specs.Table.{events, rowOf}
+use Rattle.actions.specs.Table.{events, actionRow}
 
 -- the column of no event
 abbrev pub noEvent : ℕ
 noEvent = length events
 
 unfoldable pub tick : Action → ℕ → Bool
-tick a column = eqb (getD (text (rowOf a .events)) column 0) (code "Y")
+tick a column = eqb (getD (text (actionRow a .events)) column 0) (code "Y")
 
 -- the action and the event, or its absence, are a pair of the matrix
 unfoldable pub pairAllowed : Action → Bytes → Bool

@@ -38,14 +38,14 @@ pub record ActionRow : Type 0 where
 abbrev pub row : String → Kind → Bool → Bool → Bool → List (ℕ × ℕ) → String → ActionRow
 row text kind new line repeats steps events = record { text = text; kind = kind; new = new; line = line; repeats = repeats; steps = steps; events = events }
 
-abbrev pub rowOf : Action → ActionRow
-rowOf Newt = row "NEWT" Full true true false (unknown to live ∷ []) "YYY-YYYY-YYY-"
-rowOf Modi = row "MODI" Full false true true (live to live ∷ []) "YYY--YY-Y-YY-"
-rowOf Corr = row "CORR" Full false true false (live to live ∷ closed to closed ∷ []) "------------Y"
-rowOf Term = row "TERM" Short false true false (live to closed ∷ []) "-YYYYYYYY-Y--"
-rowOf Eror = row "EROR" Short false true false (live to errored ∷ closed to errored ∷ []) "------------Y"
-rowOf Revi = row "REVI" Full false true true (errored to live ∷ closed to live ∷ []) "------------Y"
-rowOf Prto = row "PRTO" Short false false false (live to ported ∷ []) "---------Y---"
+abbrev pub actionRow : Action → ActionRow
+actionRow Newt = row "NEWT" Full true true false (unknown to live ∷ []) "YYY-YYYY-YYY-"
+actionRow Modi = row "MODI" Full false true true (live to live ∷ []) "YYY--YY-Y-YY-"
+actionRow Corr = row "CORR" Full false true false (live to live ∷ closed to closed ∷ []) "------------Y"
+actionRow Term = row "TERM" Short false true false (live to closed ∷ []) "-YYYYYYYY-Y--"
+actionRow Eror = row "EROR" Short false true false (live to errored ∷ closed to errored ∷ []) "------------Y"
+actionRow Revi = row "REVI" Full false true true (errored to live ∷ closed to live ∷ []) "------------Y"
+actionRow Prto = row "PRTO" Short false false false (live to ported ∷ []) "---------Y---"
 
 abbrev pub allActions : List Action
 allActions = Newt ∷ Modi ∷ Corr ∷ Term ∷ Eror ∷ Revi ∷ Prto ∷ []

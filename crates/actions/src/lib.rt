@@ -9,12 +9,12 @@ pub use statuses::NO_STEP;
 pub use statuses::PORTED;
 pub use statuses::UNKNOWN;
 pub use statuses::status_after;
-pub use table::ACTION_CODE;
+pub use table::ACTION_TYPE;
 pub use table::read_action;
 ghost use mathlib.Core.Path.{_≡_};
 ghost use Rattle.actions.specs.Actions.{isFull, writesLine, isNew, repeatsTime};
 use table::Kind;
-use table::row_of;
+use table::columns_of;
 
 pub enum Action {
     Newt,
@@ -26,7 +26,7 @@ pub enum Action {
     Prto,
 }
 
-// What a check answers: the code of the element at fault, or the message's action, with which the next check goes on.
+// What a check answers: the code of the element at fault, or the message's action, which the next check uses.
 pub enum Checked {
     Fault(u8),
     Value(Action),
@@ -36,7 +36,7 @@ pub enum Checked {
 pub fn is_full(a: Action) -> bool
     ensures { λ r. ⌜ r ≡ isFull a ⌝ }
 {
-    let kind = row_of(a).kind;
+    let kind = columns_of(a).kind;
     match kind {
         Kind::Full => true,
         Kind::Short => false,
@@ -47,19 +47,19 @@ pub fn is_full(a: Action) -> bool
 pub fn writes_line(a: Action) -> bool
     ensures { λ r. ⌜ r ≡ writesLine a ⌝ }
 {
-    row_of(a).line
+    columns_of(a).line
 }
 
 // Whether the action is that of a new swap.
 pub fn is_new(a: Action) -> bool
     ensures { λ r. ⌜ r ≡ isNew a ⌝ }
 {
-    row_of(a).new
+    columns_of(a).new
 }
 
 // Whether a message of the action repeats the stored execution time.
 pub fn repeats_time(a: Action) -> bool
     ensures { λ r. ⌜ r ≡ repeatsTime a ⌝ }
 {
-    row_of(a).repeats
+    columns_of(a).repeats
 }

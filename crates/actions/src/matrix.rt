@@ -6,7 +6,7 @@ use crate::Action;
 use crate::table::EVENTS;
 use crate::table::MATRIX;
 use crate::table::NO_EVENT;
-use crate::table::row_of;
+use crate::table::columns_of;
 use octets::place_in;
 use values::EVENT_SIZE;
 
@@ -15,7 +15,7 @@ fn has_tick(a: Action, column: usize) -> bool
     requires { ⌜ column ≤ noEvent ⌝ }
     ensures { λ r. ⌜ r ≡ tick a column ⌝ }
 {
-    let row = row_of(a).place;
+    let row = columns_of(a).place;
     MATRIX[row][column]
 }
 

@@ -2,7 +2,7 @@
 ghost use mathlib.Core.Path.{_≡_};
 ghost use Rattle.actions.specs.Actions.{nextStatus};
 use crate::Action;
-use crate::table::row_of;
+use crate::table::columns_of;
 
 // Statuses have the numbers from live to ported; an unknown swap has none.
 pub const UNKNOWN: u8 = 0;
@@ -21,7 +21,7 @@ pub fn status_after(a: Action, status: u8) -> u8
     if PORTED < status {
         return NO_STEP;
     }
-    let steps = row_of(a).steps;
+    let steps = columns_of(a).steps;
     let column = status as usize;
     steps[column]
 }

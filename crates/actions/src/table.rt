@@ -26,7 +26,7 @@ pub struct Columns {
 }
 
 // The code of the element that holds the action.
-pub const ACTION_CODE: u8 = 2;
+pub const ACTION_TYPE: u8 = 2;
 
 // The marks of the table.
 const Y: bool = true;
@@ -78,7 +78,7 @@ fn row(
 }
 
 // The action's row.
-pub fn row_of(a: Action) -> Columns
+pub fn columns_of(a: Action) -> Columns
     ensures { λ r. ⌜ IsRow a r ⌝ }
 {
     match a {
@@ -117,5 +117,5 @@ pub fn read_action(v: &[u8]) -> Checked
     if is_code(v, b"PRTO") {
         return Checked::Value(Prto);
     }
-    Checked::Fault(ACTION_CODE)
+    Checked::Fault(ACTION_TYPE)
 }

@@ -68,7 +68,7 @@ part-more : (xs ys : Bytes) (at n : ℕ) → at + n ≤ length xs → part (xs +
 part-more xs ys at n h =
     ap (take n) (drop-append-le at xs ys (omega arith)) ∙ take-append-le n (drop at xs) ys (omega (arith, length-drop at xs))
 
--- a message that has come whole comes to the same
+-- a message that is there whole has the same step
 pub step-more : (d : Day) (xs ys : Bytes) → isWhole xs ≡ true → step d (xs ++ ys) ≡ step d xs
 step-more d xs ys e =
     let more = frame-more (documentLimits .longest) xs ys e in

@@ -4,7 +4,7 @@ use Rattle.octets.specs.Field.{field}
 use Rattle.octets.specs.Fields.{bytesOf}
 use Rattle.octets.specs.Number.{fromLe, toLe, digits}
 use Rattle.octets.specs.Part.{splice}
-use Rattle.octets.specs.Same.{sameBytes, place, oneOf, beside}
+use Rattle.octets.specs.Same.{sameBytes, place, oneOf, lookUp}
 use Rattle.octets.specs.Search.{firstFrom, allFrom}
 use Rattle.octets.specs.Text.{text}
 use Rattle.message.specs.Layout.{u16At, entryRight, layoutRight}
@@ -25,5 +25,5 @@ use Rattle.dayrun.specs.Blocks.{Examples}
 
 pub examples : Examples
 unfolding
-    field bytesOf fromLe toLe digits splice sameBytes place oneOf beside firstFrom allFrom text u16At entryRight layoutRight entries entryFrom endOf valueAt value actionOf known howMany mostEntries hasLayout isCap bands stepIn step nearest rounded lowest firstBroken rulesOf rulesFor rowsInUse firstRow nextIdentifier capsIn sizeOfRows capacityIn capFor areCaps capacityFor headerRight newHeader openingRules openingVerdict opened submissionRules verdictOn submitted frameOf digitsFrom digitCount decimal line heading reportLine lastLine day.linesOf day.step day.reportFrom day.dayReport
+    field bytesOf fromLe toLe digits splice sameBytes place oneOf lookUp firstFrom allFrom text u16At entryRight layoutRight entries entryFrom endOf valueAt value actionOf known howMany mostEntries hasLayout isCap bands stepIn step nearest rounded lowest firstBroken rulesOf rulesFor rowsInUse firstRow nextIdentifier capsIn sizeOfRows capacityIn capFor areCaps capacityFor headerRight newHeader openingRules openingVerdict opened submissionRules verdictOn submitted frameOf digitsFrom digitCount decimal line heading reportLine lastLine day.linesOf day.step day.reportFrom day.dayReport
 examples = (refl, refl, refl, refl, refl)

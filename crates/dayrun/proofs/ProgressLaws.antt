@@ -27,14 +27,14 @@ use Rattle.dayrun.specs.Progress.{counted, dayOf, stepAt, progressAfter,
 
 -- ---- what is counted is the step's
 
-module _ (lent : Lent) (xs : Bytes) (p : Progress) (n : ℕ) (s : Submitted) (told : step (dayOf lent p) xs ≡ answered (dayOf lent p) n s) (a : Answer) (same : a ≡ submissionAnswer s) where
-  pub told-progress : counted p (lengthSize + n) (reportLine (p .judged + 1) (a .verdict) (a .element) (a .identifier)) (a .identifier) ≡ progressAfter p (step (dayOf lent p) xs)
-  told-progress =
-      ap (λ (b : Answer). counted p (lengthSize + n) (reportLine (p .judged + 1) (b .verdict) (b .element) (b .identifier)) (b .identifier)) same ∙ ap (progressAfter p) (sym told)
+module _ (lent : Lent) (xs : Bytes) (p : Progress) (n : ℕ) (s : Submitted) (ensured : step (dayOf lent p) xs ≡ answered (dayOf lent p) n s) (a : Answer) (same : a ≡ submissionAnswer s) where
+  pub progress-is : counted p (lengthSize + n) (reportLine (p .judged + 1) (a .verdict) (a .element) (a .identifier)) (a .identifier) ≡ progressAfter p (step (dayOf lent p) xs)
+  progress-is =
+      ap (λ (b : Answer). counted p (lengthSize + n) (reportLine (p .judged + 1) (b .verdict) (b .element) (b .identifier)) (b .identifier)) same ∙ ap (progressAfter p) (sym ensured)
 
-  pub told-line : reportLine (p .judged + 1) (a .verdict) (a .element) (a .identifier) ≡ step (dayOf lent p) xs .line
-  told-line =
-      ap (λ (b : Answer). reportLine (p .judged + 1) (b .verdict) (b .element) (b .identifier)) same ∙ ap (λ x. x .line) (sym told)
+  pub line-is : reportLine (p .judged + 1) (a .verdict) (a .element) (a .identifier) ≡ step (dayOf lent p) xs .line
+  line-is =
+      ap (λ (b : Answer). reportLine (p .judged + 1) (b .verdict) (b .element) (b .identifier)) same ∙ ap (λ x. x .line) (sym ensured)
 
 -- where no message is whole nothing is counted
 pub unmoved : (lent : Lent) (xs : Bytes) (p : Progress) → p ≡ progressAfter p (stepOn (dayOf lent p) xs Partial)
@@ -70,8 +70,8 @@ few-wait : (writes : Bool) (n : ℕ) → (writes ≡ false → n < writeSize) �
 few-wait true n h = omega arith
 few-wait false n h = h refl
 
-pub written-within : (n most : ℕ) (writes told : Bool) (p r : Progress) → r ≡ written writes told p → (writes ≡ false → p .used < writeSize) → Within n most p → Within n writeSize r
-written-within n most writes told p r e h w =
+pub written-within : (n most : ℕ) (writes ensured : Bool) (p r : Progress) → r ≡ written writes ensured p → (writes ≡ false → p .used < writeSize) → Within n most p → Within n writeSize r
+written-within n most writes ensured p r e h w =
     subst (Within n writeSize) (sym e) (record { passed = w .passed; waiting = few-wait writes (p .used) h; lines = w .lines; messages = w .messages })
 
 -- ---- from one block to the next
@@ -127,9 +127,9 @@ judged-start lent input out p =
     let none : p .judged - p .judged ≡ 0 = omega arith in
     record { counted = omega arith; day = rw none; rest = rw none; waiting = rw none }
 
-module _ {lent₀ : Lent} {input out₀ : Bytes} {p₀ : Progress} {lent lent′ : Lent} {out : Bytes} {p r : Progress} (so-far : JudgedUpTo lent₀ input out₀ p₀ lent out p) (told : r ≡ progressAfter p (stepAt lent input p)) (left : lent′ ≡ stepAt lent input p .after .lent) where
+module _ {lent₀ : Lent} {input out₀ : Bytes} {p₀ : Progress} {lent lent′ : Lent} {out : Bytes} {p r : Progress} (so-far : JudgedUpTo lent₀ input out₀ p₀ lent out p) (ensured : r ≡ progressAfter p (stepAt lent input p)) (left : lent′ ≡ stepAt lent input p .after .lent) where
   moved : r .at ≡ p .at + stepAt lent input p .taken
-  moved = ap (λ (x : Progress). x .at) told
+  moved = ap (λ (x : Progress). x .at) ensured
 
   -- no message was whole
   pub none-left : r .at ≡ p .at → isWhole (drop (r .at) input) ≡ false
@@ -137,12 +137,12 @@ module _ {lent₀ : Lent} {input out₀ : Bytes} {p₀ : Progress} {lent lent′
 
   module _ {out′ : Bytes} (put : out′ ≡ splice out (p .used) (stepAt lent input p .line)) (room : r .used ≤ length out) where
     fits : p .used + length (stepAt lent input p .line) ≤ length out
-    fits = omega (arith, ap (λ (x : Progress). x .used) told, room)
+    fits = omega (arith, ap (λ (x : Progress). x .used) ensured, room)
 
     -- its line stands behind what waited
     added : part out′ 0 (r .used) ≡ part out 0 (p .used) ++ stepAt lent input p .line
     added =
-        ap (part out′ 0) (ap (λ (x : Progress). x .used) told)
+        ap (part out′ 0) (ap (λ (x : Progress). x .used) ensured)
         ∙ ap (λ (x : Bytes). part x 0 (p .used + length (stepAt lent input p .line))) put
         ∙ line-behind out (stepAt lent input p .line) (p .used) fits
 
@@ -150,8 +150,8 @@ module _ {lent₀ : Lent} {input out₀ : Bytes} {p₀ : Progress} {lent lent′
     judged-none e =
         let none : stepAt lent input p ≡ stepOn (dayOf lent p) (drop (p .at) input) Partial = step-none (dayOf lent p) (drop (p .at) input) (omega (arith, moved, e)) in
         let same : stepAt lent input p .after ≡ dayOf lent p = ap (λ (x : Step). x .after) none in
-        let count : r .judged ≡ p .judged = ap (λ (x : Progress). x .judged) told ∙ ap (λ (x : Day). x .judged) same in
-        let here : dayOf lent′ r ≡ dayOf lent p = day-same _ lent′ r left (ap (λ (x : Progress). x .judged) told) (ap (λ (x : Progress). x .published) told) ∙ same in
+        let count : r .judged ≡ p .judged = ap (λ (x : Progress). x .judged) ensured ∙ ap (λ (x : Day). x .judged) same in
+        let here : dayOf lent′ r ≡ dayOf lent p = day-same _ lent′ r left (ap (λ (x : Progress). x .judged) ensured) (ap (λ (x : Progress). x .published) ensured) ∙ same in
         let stays : part out′ 0 (r .used) ≡ part out 0 (p .used) = added ∙ ap (λ (x : Step). part out 0 (p .used) ++ x .line) none ∙ append-nil _ in
         record {
           counted = omega (arith, count, so-far .counted);
@@ -179,10 +179,10 @@ module _ {lent₀ : Lent} {input out₀ : Bytes} {p₀ : Progress} {lent lent′
         let s′ : Step = step (afterMessages k d xs) (restAfter k d xs) in
         let w₀ : Bytes = part out₀ 0 (p₀ .used) in
         let one : s .after .judged ≡ p .judged + 1 = step-one (dayOf lent p) (drop (p .at) input) (omega (arith, moved, h)) in
-        let count : w .judged ≡ s .after .judged = ap (λ (x : Progress). x .judged) e ∙ ap (λ (x : Progress). x .judged) told in
+        let count : w .judged ≡ s .after .judged = ap (λ (x : Progress). x .judged) e ∙ ap (λ (x : Progress). x .judged) ensured in
         let place : w .judged - p₀ .judged ≡ suc k = omega (arith, count, one, so-far .counted) in
         let same : s ≡ s′ = ap (λ (x : Day). step x (drop (p .at) input)) (so-far .day) ∙ ap (step (afterMessages k d xs)) (so-far .rest) in
-        let here : dayOf lent′ w ≡ s .after = day-same (s .after) lent′ w left count (ap (λ (x : Progress). x .published) e ∙ ap (λ (x : Progress). x .published) told) in
+        let here : dayOf lent′ w ≡ s .after = day-same (s .after) lent′ w left count (ap (λ (x : Progress). x .published) e ∙ ap (λ (x : Progress). x .published) ensured) in
         let rest : drop (w .at) input ≡ drop (s .taken) (drop (p .at) input) = ap (λ (i : ℕ). drop i input) (ap (λ (x : Progress). x .at) e ∙ moved) ∙ sym (drop-drop (s .taken) (p .at) input) in
         let waits : part out′ 0 (w .used) ≡ waitingWith (part out 0 (p .used)) (s .line) = kept (w .used) (ap (λ (x : Progress). x .used) e) in
         record {

@@ -41,7 +41,7 @@ pub record Day : Type 0 where
 unfoldable pub linesOf : ℕ → ℕ
 linesOf identifier = choose (eqb identifier 0) 0 1
 
--- what the front of the input comes to: the bytes it takes (none where no message is whole), its line, and the day after it
+-- one step at the front of the input: the bytes it takes (none where no message is whole), its line, and the day after it
 pub record Step : Type 0 where
   pub taken : ℕ
   pub line : Bytes

@@ -2,7 +2,7 @@
 ghost use mathlib.Core.Bool.{true};
 ghost use mathlib.Core.Path.{_≡_};
 ghost use lib.Dec.{leb};
-ghost use Rattle.octets.specs.Part.{part};
+ghost use Rattle.octets.specs.Part.{part, PartOf};
 ghost use Rattle.dayrun.specs.Progress.{writeSize, written};
 use crate::judging::Progress;
 use day::LONGEST_LINE;
@@ -16,7 +16,7 @@ pub const OUTPUT_SIZE: usize = WRITE_SIZE + LONGEST_LINE;
 
 // The bytes of the report that wait to be written.
 pub fn waiting<'a>(out: &'a [u8], used: usize) -> &'a [u8]
-    ensures { λ r. ⌜ now r ≡ part (now (out .entry)) 0 used ⌝ }
+    ensures { λ r. ⌜ (now r ≡ part (now (out .entry)) 0 used) × PartOf (out .entry) 0 r ⌝ }
 {
     part_of(out, 0, used)
 }

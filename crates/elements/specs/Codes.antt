@@ -7,14 +7,14 @@ uti = 1
 abbrev pub eventType : ℕ
 eventType = 3
 
-abbrev pub eventTime : ℕ
-eventTime = 4
+abbrev pub eventTimestamp : ℕ
+eventTimestamp = 4
 
-abbrev pub reportingTime : ℕ
-reportingTime = 5
+abbrev pub reportingTimestamp : ℕ
+reportingTimestamp = 5
 
-abbrev pub executionTime : ℕ
-executionTime = 6
+abbrev pub executionTimestamp : ℕ
+executionTimestamp = 6
 
 abbrev pub effectiveDate : ℕ
 effectiveDate = 7

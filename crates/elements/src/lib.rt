@@ -23,11 +23,11 @@ pub const UTI: u8 = 1;
 
 pub const EVENT_TYPE: u8 = 3;
 
-pub const EVENT_TIME: u8 = 4;
+pub const EVENT_TIMESTAMP: u8 = 4;
 
-pub const REPORTING_TIME: u8 = 5;
+pub const REPORTING_TIMESTAMP: u8 = 5;
 
-pub const EXECUTION_TIME: u8 = 6;
+pub const EXECUTION_TIMESTAMP: u8 = 6;
 
 pub const EFFECTIVE_DATE: u8 = 7;
 

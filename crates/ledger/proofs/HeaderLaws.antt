@@ -7,7 +7,7 @@ use mathlib.Core.Path.{_≡_, refl}
 use native.Mathlib.Omega.{arith}
 use Rattle.octets.specs.Bytes.{Bytes}
 use Rattle.octets.specs.Choice.{choose}
-use Rattle.octets.specs.Same.{sameBytes, beside}
+use Rattle.octets.specs.Same.{sameBytes, lookUp}
 use Rattle.octets.specs.Text.{text}
 use Rattle.octets.proofs.ChoiceLaws.{both-first, both-second}
 use Rattle.values.specs.Code.{assetClasses}
@@ -31,15 +31,15 @@ each-cap caps e =
 
 -- ---- the cap of a class is what the masking requires of it
 
-none-largest : (v : Bytes) → beside [] 0 v ≤ largestCap
-unfolding beside
+none-largest : (v : Bytes) → lookUp [] 0 v ≤ largestCap
+unfolding lookUp
 none-largest v = omega arith
 
-more-largest : (c : String × ℕ) (cs : List (String × ℕ)) (v : Bytes) → isCap (c .1) ≡ true → beside cs 0 v ≤ largestCap → beside (c ∷ cs) 0 v ≤ largestCap
-unfolding beside
+more-largest : (c : String × ℕ) (cs : List (String × ℕ)) (v : Bytes) → isCap (c .1) ≡ true → lookUp cs 0 v ≤ largestCap → lookUp (c ∷ cs) 0 v ≤ largestCap
+unfolding lookUp
 more-largest c cs v e l = by (sameBytes v (text (c .0)))
   where
-    by : (t : Bool) → choose t (c .1) (beside cs 0 v) ≤ largestCap
+    by : (t : Bool) → choose t (c .1) (lookUp cs 0 v) ≤ largestCap
     by true = cap-largest (c .1) e
     by false = l
 

@@ -19,31 +19,31 @@ use Rattle.ledger.specs.Rows.{rowAt, withRows, withNext, headerAfter}
 
 -- what a write does not touch: a part that ends before it or starts after it
 module _ (l ys : Bytes) (at : ℕ) (h : at + length ys ≤ length l) where
-  part-beside : (from n : ℕ) → (at < from + n → at + length ys ≤ from) → part (splice l at ys) from n ≡ part l from n
-  part-beside from n apart =
+  part-outside : (from n : ℕ) → (at < from + n → at + length ys ≤ from) → part (splice l at ys) from n ≡ part l from n
+  part-outside from n apart =
       elim (decLt at (from + n)) [
         | yes b ↦ part-after l ys at h from n (apart b)
         | no b ↦ part-before l ys at h from n (omega arith)
       ]
 
-  rows-beside : (at < rowsAt + u32 → at + length ys ≤ rowsAt) → rowsInUse (splice l at ys) ≡ rowsInUse l
+  rows-outside : (at < rowsAt + u32 → at + length ys ≤ rowsAt) → rowsInUse (splice l at ys) ≡ rowsInUse l
   unfolding rowsInUse
-  rows-beside apart = ap fromLe (part-beside rowsAt u32 apart)
+  rows-outside apart = ap fromLe (part-outside rowsAt u32 apart)
 
-  next-beside : (at < nextAt + u64 → at + length ys ≤ nextAt) → nextIdentifier (splice l at ys) ≡ nextIdentifier l
+  next-outside : (at < nextAt + u64 → at + length ys ≤ nextAt) → nextIdentifier (splice l at ys) ≡ nextIdentifier l
   unfolding nextIdentifier
-  next-beside apart = ap fromLe (part-beside nextAt u64 apart)
+  next-outside apart = ap fromLe (part-outside nextAt u64 apart)
 
-  caps-beside : (at < capAt 5 → at + length ys ≤ capsAt) → capsIn (splice l at ys) ≡ capsIn l
+  caps-outside : (at < capAt 5 → at + length ys ≤ capsAt) → capsIn (splice l at ys) ≡ capsIn l
   unfolding capsIn
-  caps-beside apart = rw (cap 0 (omega arith), cap 1 (omega arith), cap 2 (omega arith), cap 3 (omega arith), cap 4 (omega arith))
+  caps-outside apart = rw (cap 0 (omega arith), cap 1 (omega arith), cap 2 (omega arith), cap 3 (omega arith), cap 4 (omega arith))
     where
       cap : (k : ℕ) → k < 5 → part (splice l at ys) (capAt k) u64 ≡ part l (capAt k) u64
-      cap k b = part-beside (capAt k) u64 (λ c. omega (arith, apart (omega arith)))
+      cap k b = part-outside (capAt k) u64 (λ c. omega (arith, apart (omega arith)))
 
-  row-beside : (k : ℕ) → (at < rowStart k + rowSize → at + length ys ≤ rowStart k) → rowAt (splice l at ys) k ≡ rowAt l k
+  row-outside : (k : ℕ) → (at < rowStart k + rowSize → at + length ys ≤ rowStart k) → rowAt (splice l at ys) k ≡ rowAt l k
   unfolding rowAt
-  row-beside k apart = part-beside (rowStart k) rowSize apart
+  row-outside k apart = part-outside (rowStart k) rowSize apart
 
 -- ---- a row is written
 
@@ -55,20 +55,20 @@ module _ (l r : Bytes) (k : ℕ) (size : length r ≡ rowSize) (room : rowStart 
   row-length = length-splice l r (rowStart k) fits
 
   pub row-rows : rowsInUse (splice l (rowStart k) r) ≡ rowsInUse l
-  row-rows = rows-beside l r (rowStart k) fits (λ b. omega arith)
+  row-rows = rows-outside l r (rowStart k) fits (λ b. omega arith)
 
   pub row-next : nextIdentifier (splice l (rowStart k) r) ≡ nextIdentifier l
-  row-next = next-beside l r (rowStart k) fits (λ b. omega arith)
+  row-next = next-outside l r (rowStart k) fits (λ b. omega arith)
 
   pub row-caps : capsIn (splice l (rowStart k) r) ≡ capsIn l
-  row-caps = caps-beside l r (rowStart k) fits (λ b. omega arith)
+  row-caps = caps-outside l r (rowStart k) fits (λ b. omega arith)
 
   pub row-same : rowAt (splice l (rowStart k) r) k ≡ r
   unfolding rowAt
   row-same = rw (size) at (part-at l r (rowStart k) fits)
 
   pub row-other : (j : ℕ) → (j ≡ k → ⊥) → rowAt (splice l (rowStart k) r) j ≡ rowAt l j
-  row-other j differ = row-beside l r (rowStart k) fits j (λ b. omega (arith, differ))
+  row-other j differ = row-outside l r (rowStart k) fits j (λ b. omega (arith, differ))
 
 -- ---- rows in use are written
 
@@ -86,15 +86,15 @@ module _ (l : Bytes) (n : ℕ) (room : headerSize ≤ length l) where
 
   pub rows-next : nextIdentifier (withRows n l) ≡ nextIdentifier l
   unfolding withRows
-  rows-next = next-beside l (toLe u32 n) rowsAt rows-fit (λ b. omega (arith, length-toLe u32 n))
+  rows-next = next-outside l (toLe u32 n) rowsAt rows-fit (λ b. omega (arith, length-toLe u32 n))
 
   pub rows-caps : capsIn (withRows n l) ≡ capsIn l
   unfolding withRows
-  rows-caps = caps-beside l (toLe u32 n) rowsAt rows-fit (λ b. omega (arith, length-toLe u32 n))
+  rows-caps = caps-outside l (toLe u32 n) rowsAt rows-fit (λ b. omega (arith, length-toLe u32 n))
 
   pub rows-row : (k : ℕ) → rowAt (withRows n l) k ≡ rowAt l k
   unfolding withRows
-  rows-row k = row-beside l (toLe u32 n) rowsAt rows-fit k (λ b. omega (arith, length-toLe u32 n))
+  rows-row k = row-outside l (toLe u32 n) rowsAt rows-fit k (λ b. omega (arith, length-toLe u32 n))
 
   -- ---- the next identifier is written
 
@@ -107,7 +107,7 @@ module _ (l : Bytes) (n : ℕ) (room : headerSize ≤ length l) where
 
   pub next-rows : rowsInUse (withNext n l) ≡ rowsInUse l
   unfolding withNext
-  next-rows = rows-beside l (toLe u64 n) nextAt next-fit (λ b. omega arith)
+  next-rows = rows-outside l (toLe u64 n) nextAt next-fit (λ b. omega arith)
 
   pub next-next : n < 256 ^ u64 → nextIdentifier (withNext n l) ≡ n
   unfolding withNext nextIdentifier
@@ -115,11 +115,11 @@ module _ (l : Bytes) (n : ℕ) (room : headerSize ≤ length l) where
 
   pub next-caps : capsIn (withNext n l) ≡ capsIn l
   unfolding withNext
-  next-caps = caps-beside l (toLe u64 n) nextAt next-fit (λ b. omega (arith, length-toLe u64 n))
+  next-caps = caps-outside l (toLe u64 n) nextAt next-fit (λ b. omega (arith, length-toLe u64 n))
 
   pub next-row : (k : ℕ) → rowAt (withNext n l) k ≡ rowAt l k
   unfolding withNext
-  next-row k = row-beside l (toLe u64 n) nextAt next-fit k (λ b. omega (arith, length-toLe u64 n))
+  next-row k = row-outside l (toLe u64 n) nextAt next-fit k (λ b. omega (arith, length-toLe u64 n))
 
 -- ---- both are raised, as the action says
 

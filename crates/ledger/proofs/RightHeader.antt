@@ -74,9 +74,9 @@ abbrev pub HeaderTold : ℕ → Bytes → HeaderCheck → Type 0
 HeaderTold largest l Fault = headerRight largest l ≡ false
 HeaderTold largest l (Value h) = (headerRight largest l ≡ true) × (h ≡ headerOf l)
 
-pub header-told : (largest : ℕ) (l : Bytes) (r : HeaderCheck) → checkedHeader largest l ≡ r → HeaderTold largest l r
+pub header-checked : (largest : ℕ) (l : Bytes) (r : HeaderCheck) → checkedHeader largest l ≡ r → HeaderTold largest l r
 unfolding checkedHeader
-header-told largest l r e = subst (HeaderTold largest l) e (by (headerRight largest l) refl)
+header-checked largest l r e = subst (HeaderTold largest l) e (by (headerRight largest l) refl)
   where
     by : (b : Bool) → headerRight largest l ≡ b → HeaderTold largest l (choose b (Value (headerOf l)) Fault)
     by true g = (g, refl)

@@ -33,7 +33,7 @@ headerPlaces = (0, 4) ∷ (4, 4) ∷ (8, 8) ∷ (16, 8) ∷ (24, 8) ∷ (32, 8) 
 abbrev pub rowPlaces : List (ℕ × ℕ)
 rowPlaces = (0, 1) ∷ (1, 1) ∷ (2, 52) ∷ (54, 8) ∷ (62, 93) ∷ (155, 5) ∷ []
 
--- ---- the definitions come to these numbers
+-- ---- the definitions have these numbers
 
 pub record Document-sizes : Type 0 where
   -- the fields that are written

@@ -10,7 +10,7 @@ use Rattle.octets.specs.Bytes.{Bytes}
 use Rattle.octets.specs.Choice.{choose, both}
 use Rattle.octets.specs.Part.{part}
 use Rattle.octets.specs.Number.{fromLe}
-use Rattle.octets.specs.Same.{beside}
+use Rattle.octets.specs.Same.{lookUp}
 use Rattle.octets.specs.Fields.{FieldText, numberField, bytesOf}
 use Rattle.values.specs.Run.{within}
 use Rattle.notional.specs.Masking.{isCap}
@@ -51,7 +51,7 @@ classCaps caps = ("CR", caps .cr) ∷ ("IR", caps .ir) ∷ ("FX", caps .fx) ∷ 
 
 -- a value that is no class has none
 unfoldable pub capFor : Caps → Bytes → ℕ
-capFor caps v = beside (classCaps caps) 0 v
+capFor caps v = lookUp (classCaps caps) 0 v
 
 -- each cap is in its range and its own rounded amount (verdict 2)
 unfoldable pub areCaps : Caps → Bool
@@ -84,7 +84,7 @@ pub record RightHeader (largest : ℕ) (l : Bytes) : Type 0 where
   pub rows : rowsInUse l ≤ capacityIn l
   pub caps : areCaps (capsIn l) ≡ true
 
--- the numbers of a header that a submission goes on with
+-- the numbers of a header that a submission uses
 unfoldable pub headerOf : Bytes → Header
 headerOf l = record { rows = rowsInUse l; next = nextIdentifier l; capacity = capacityIn l; caps = capsIn l }
 

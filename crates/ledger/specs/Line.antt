@@ -8,8 +8,8 @@ use Rattle.octets.specs.Fields.{FieldText, bytesOf}
 use Rattle.values.specs.Limits.{eventSize}
 use Rattle.message.specs.Values.{value}
 use Rattle.actions.specs.declared.Action.{Action}
-use Rattle.actions.specs.Actions.{actionCode, isNew}
-use Rattle.elements.specs.Codes.{eventType, eventTime}
+use Rattle.actions.specs.Actions.{actionType, isNew}
+use Rattle.elements.specs.Codes.{eventType, eventTimestamp}
 use Rattle.terms.specs.Terms.{timeSize, termsSize}
 
 -- the decimal digits of an identifier
@@ -32,9 +32,9 @@ abbrev pub lineFields : Action → ℕ → ℕ → Bytes → Bytes → List Fiel
 lineFields a identifier previous m terms =
     (identifierDigits, digits identifierDigits identifier)
     ∷ (identifierDigits, previousText a previous)
-    ∷ (actionSize, value actionCode m)
+    ∷ (actionSize, value actionType m)
     ∷ (eventSize, value eventType m)
-    ∷ (timeSize, value eventTime m)
+    ∷ (timeSize, value eventTimestamp m)
     ∷ (termsSize, terms)
     ∷ (1, newline ∷ [])
     ∷ []

@@ -110,7 +110,7 @@ fn read_caps(l: &[u8]) -> Caps
     }
 }
 
-// The numbers of a header that a submission goes on with.
+// The numbers of a header that a submission uses.
 fn read_numbers(l: &[u8]) -> Header
     ensures { λ r. ⌜ r ≡ headerOf (now (l .entry)) ⌝ }
 {

@@ -10,10 +10,10 @@ ghost use Rattle.ledger.specs.Layout.{lineSize};
 ghost use Rattle.ledger.specs.Document.{Document-sizes};
 ghost use Rattle.ledger.specs.Line.{identifierDigits, previousText, line};
 use crate::layout::U8;
-use actions::ACTION_CODE;
+use actions::ACTION_TYPE;
 use actions::Action;
 use actions::is_new;
-use elements::EVENT_TIME;
+use elements::EVENT_TIMESTAMP;
 use elements::EVENT_TYPE;
 use message::element;
 use octets::copy_at;
@@ -76,9 +76,9 @@ fn write_fields(dst: &mut [u8], a: Action, identifier: u64, previous: u64, m: &[
 {
     digits_at(dst, DISSEMINATION_AT, IDENTIFIER_DIGITS, identifier);
     previous_at(dst, PREVIOUS_AT, a, previous);
-    element_at(dst, ACTION_AT, ACTION_SIZE, m, ACTION_CODE);
+    element_at(dst, ACTION_AT, ACTION_SIZE, m, ACTION_TYPE);
     element_at(dst, EVENT_AT, EVENT_SIZE, m, EVENT_TYPE);
-    element_at(dst, TIME_AT, TIME_SIZE, m, EVENT_TIME);
+    element_at(dst, TIME_AT, TIME_SIZE, m, EVENT_TIMESTAMP);
     copy_at(dst, TERMS_START, terms);
     fill_at(dst, NEWLINE_AT, U8, NEWLINE);
 }

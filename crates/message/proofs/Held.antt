@@ -37,7 +37,7 @@ use Rattle.octets.specs.Part.{PartOf}
 use Rattle.message.specs.Layout.{offsetAt}
 use Rattle.message.specs.Values.{entryFrom, valueAt}
 use Rattle.message.specs.declared.Reader.{Reader}
-use Rattle.message.proofs.Walk.{rules, Param, beside}
+use Rattle.message.proofs.Walk.{rules, Param, with-others}
 use Rattle.message.proofs.Reader as struct
 use Rattle.message.proofs.Reader.Laws as laws
 pub use Rattle.message.proofs.Reader.Laws.{lowered}
@@ -78,8 +78,8 @@ abbrev pub Lending : (κ : Lft) (d : Reader) (ws : List Width) → Denots (uints
 Lending κ d ws a = owns (Lent κ ∷ uints ws) (d .src, a) (bytes (d .src) ∷ [], vints ws a)
 
 -- a reader's machine value is of its type
-abbrev pub Fits : Reader → Type 0
-Fits d = Holds (hasTy (laws.mir (named 0)) (lowered d)) × WT (lowered d)
+abbrev pub WellTyped : Reader → Type 0
+WellTyped d = Holds (hasTy (laws.mir (named 0)) (lowered d)) × WT (lowered d)
 
 -- what `entry_of` says of the entry that it finds for a reader, and `value_at` of the part of the message
 abbrev pub Next : Reader → ℕ → ℕ → Type 0
@@ -119,7 +119,7 @@ module _ {M : Type 1} (𝓤 : URA M) (H : Heap 𝓤) (𝓜 : Model 𝓤 H) (𝓖
   -- numbers own nothing
   pub numbers : (ws : List Width) (a : Denots (uints ws)) → Below ws a → ent 𝓤 (emp 𝓤) (sem 𝓤 H A (owns (uints ws) a (vints ws a)))
   numbers [] a fit = id⊢ 𝓤 (emp 𝓤)
-  numbers (w ∷ ws) a fit = via 𝓤 _ (uint-makes 𝓤 H A W w (a .0) _ (refl, fit .0)) (beside 𝓤 H A (UInt w) (a .0) (vint w (a .0) ∷ []) (uints ws) (a .1) (vints ws (a .1)) (numbers ws (a .1) (fit .1)))
+  numbers (w ∷ ws) a fit = via 𝓤 _ (uint-makes 𝓤 H A W w (a .0) _ (refl, fit .0)) (with-others 𝓤 H A (UInt w) (a .0) (vint w (a .0) ∷ []) (uints ws) (a .1) (vints ws (a .1)) (numbers ws (a .1) (fit .1)))
 
   module _ (κ : Lft) where
     abbrev D : Declared
@@ -139,7 +139,7 @@ module _ {M : Type 1} (𝓤 : URA M) (H : Heap 𝓤) (𝓜 : Model 𝓤 H) (𝓖
           qed W (‵ (Own κ d) ∷ []) ∵ use1 W (‵ (Own κ d) ⊛ ‵ (Own κ d)) (held (κ, tt) .twofold 𝓤 H A W .twice d (lowered d ∷ [])) $ split ! $
           use1 W (given (lowered d ∷ [] ≡ lowered d ∷ []) (‵ (all-own (D .parts) L (d .src, (d .at, tt))))) (own-open 𝓤 H A W D L (d .src, (d .at, tt)) (lowered d)) $ learn ! (λ _.
           use1 W (‵ (ownAt (D .parts) L 0 (d .src)) ⊛ ‵ (rest (D .parts) L 0 (d .src, (d .at, tt)))) (own-out 𝓤 H A W (D .parts) L 0 (d .src, (d .at, tt))) $ split ! $ move ! (1 ∷ []) $ drop ! $
-          use1 W (‵ (Lending κ d ws a)) (beside 𝓤 H A (Lent κ) (d .src) (bytes (d .src) ∷ []) (uints ws) a (vints ws a) (numbers ws a fit)) $ frame ! $ done !)
+          use1 W (‵ (Lending κ d ws a)) (with-others 𝓤 H A (Lent κ) (d .src) (bytes (d .src) ∷ []) (uints ws) a (vints ws a) (numbers ws a fit)) $ frame ! $ done !)
 
       pub moves : (n : ℕ) → n < 2 ^ 64 → ent 𝓤 (sem 𝓤 H A (Own κ d)) (sem 𝓤 H A (Own κ (reader (d .src) n)))
       moves n fits =

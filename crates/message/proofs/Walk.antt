@@ -5,7 +5,7 @@
 --     Exits, ends      at the end, with the result, the tokens and that other copy there, the fact is shown (`shown`)
 --     reaches          a walk proves the function's statement
 --     calls            another function is called, and what it says of its answer is known from there on
---     beside           the arguments of a call: one that owns something, and others that own nothing
+--     with-others        the arguments of a call: one that owns something, and others that own nothing
 --     local, field-of, gone        a local is read; a field of a local is read; a local is given back
 -- The words that every walk is written in are passed on, so that a walk's file names them in one line.
 use mathlib.Core.Path.{_≡_, sym, subst}
@@ -63,13 +63,13 @@ abbrev pub Params : List RattleType → Type 2
 Params [] = Unit {2}
 Params (R ∷ Rs) = Param R × Params Rs
 
-abbrev spelled : (Rs : List RattleType) → Params Rs → Spells Rs
-spelled [] ps = tt
-spelled (R ∷ Rs) ps = (ps .0 .vals, spelled Rs (ps .1))
+abbrev machine-values : (Rs : List RattleType) → Params Rs → Spells Rs
+machine-values [] ps = tt
+machine-values (R ∷ Rs) ps = (ps .0 .vals, machine-values Rs (ps .1))
 
-told : (Rs : List RattleType) (ps : Params Rs) → Tellss Rs (Ises Rs) (spelled Rs ps)
-told [] ps = tt
-told (R ∷ Rs) ps = (ps .0 .tells, told Rs (ps .1))
+all-tell : (Rs : List RattleType) (ps : Params Rs) → Tellss Rs (Ises Rs) (machine-values Rs ps)
+all-tell [] ps = tt
+all-tell (R ∷ Rs) ps = (ps .0 .tells, all-tell Rs (ps .1))
 
 copies : (Rs : List RattleType) → Params Rs → {M : Type 1} (𝓤 : URA M) (H : Heap 𝓤) (A : Atoms 𝓤) → Given 𝓤 H A → Copies 𝓤 H A Rs
 copies [] ps 𝓤 H A W = tt
@@ -163,7 +163,7 @@ module _ {M : Type 1} (𝓤 : URA M) (H : Heap 𝓤) (𝓜 : Model 𝓤 H) (𝓖
         Rs κs = typesAt (T .signature .params) κs
 
         abbrev mach : (κs : Lfts (T .signature .lifetimes)) → Args (T .signature) κs → Valss (Rs κs)
-        mach κs a = valss (Rs κs) (spelled (Rs κs) (ps κs)) a
+        mach κs a = valss (Rs κs) (machine-values (Rs κs) (ps κs)) a
 
         abbrev pub Walk : Type 1
         Walk = (κs : Lfts (T .signature .lifetimes)) (qs : Shares (T .signature .lifetimes)) (bounds : AllOutlive (T .signature .lifetimes) (T .signature .outlives) κs) (a : Args (T .signature) κs) (g : c κs a .ghost)
@@ -175,7 +175,7 @@ module _ {M : Type 1} (𝓤 : URA M) (H : Heap 𝓤) (𝓜 : Model 𝓤 H) (𝓖
         unfolding tablesOf
         reaches k closed walk = entered 𝓤 H (tripleOf 𝓤 H (𝓖 .A) (T .signature) (closing 𝓤 H (𝓖 .A) T c)) (tables 𝓤 H 𝓜 𝓡 γ .C) (tables 𝓤 H 𝓜 𝓡 γ .Λ) k e closed
             (walk-meets 𝓤 H (𝓖 .A) T hs W (goes 𝓤 H (𝓖 .A) W (T .signature .lifetimes) (T .signature .params) (T .kept) ps) c Runs (WpFn-mono 𝓤 H (W .laws) (tablesOf 𝓤 H 𝓜 (tables 𝓤 H 𝓜 𝓡 γ)) e)
-            (walked 𝓤 H (𝓖 .A) T hs c Runs (λ κs. spelled (Rs κs) (ps κs)) (λ κs. told (Rs κs) (ps κs)) (λ κs qs bounds a g are.
+            (walked 𝓤 H (𝓖 .A) T hs c Runs (λ κs. machine-values (Rs κs) (ps κs)) (λ κs. all-tell (Rs κs) (ps κs)) (λ κs qs bounds a g are.
             qed W ((raw (alive 𝓤 H (𝓖 .A) (T .signature) κs qs) ⊛ ‵ (owns (Rs κs) a (mach κs a))) ∷ raw (c κs a .requires g) ∷ []) ∵ split ! $ move ! (1 ∷ []) $
             use1 W (‵ (owns (Rs κs) a (mach κs a)) ⊛ ‵ (owns (Rs κs) a (mach κs a))) (twices 𝓤 H (𝓖 .A) W (Rs κs) (copies (Rs κs) (ps κs) 𝓤 H (𝓖 .A) W) a (mach κs a)) $ split ! $
             keep ! (2 ∷ 0 ∷ 1 ∷ []) $ enter ! (tables 𝓤 H 𝓜 𝓡 γ .C) (tables 𝓤 H 𝓜 𝓡 γ .Λ) e (flat (Rs κs) (mach κs a)) _ $ walk κs qs bounds a g are)))
@@ -198,9 +198,9 @@ module _ {M : Type 1} (𝓤 : URA M) (H : Heap 𝓤) (𝓜 : Model 𝓤 H) (𝓖
           split t $ move t (1 ∷ []) $ peeks t (typeAt (T .signature .result) (y .0 .0)) (Is (typeAt (T .signature .result) (y .0 .0))) (shows 𝓤 H (𝓖 .A) (typeAt (T .signature .result) (y .0 .0))) x (u ∷ []) (λ is. k u x e is))))
 
 -- one argument, and beside it others that own nothing
-pub beside : {M : Type 1} (𝓤 : URA M) (H : Heap 𝓤) (A : Atoms 𝓤) (R : RattleType) (x : R .Denot) (vs : List Val) (Rs : List RattleType) (a : Denots Rs) (vss : Valss Rs)
+pub with-others : {M : Type 1} (𝓤 : URA M) (H : Heap 𝓤) (A : Atoms 𝓤) (R : RattleType) (x : R .Denot) (vs : List Val) (Rs : List RattleType) (a : Denots Rs) (vss : Valss Rs)
     → ent 𝓤 (emp 𝓤) (sem 𝓤 H A (owns Rs a vss)) → ent 𝓤 (sem 𝓤 H A (R .own x vs)) (sem 𝓤 H A (owns (R ∷ Rs) (x, a) (vs, vss)))
-beside 𝓤 H A R x vs Rs a vss others = via 𝓤 _ (emp∗ 𝓤 (sem 𝓤 H A (R .own x vs))) (via 𝓤 _ (comm∗ 𝓤 (emp 𝓤) (sem 𝓤 H A (R .own x vs))) (monoR 𝓤 (sem 𝓤 H A (R .own x vs)) others))
+with-others 𝓤 H A R x vs Rs a vss others = via 𝓤 _ (emp∗ 𝓤 (sem 𝓤 H A (R .own x vs))) (via 𝓤 _ (comm∗ 𝓤 (emp 𝓤) (sem 𝓤 H A (R .own x vs))) (monoR 𝓤 (sem 𝓤 H A (R .own x vs)) others))
 
 -- ---- locals, by the place of their cell in the context
 module _ {M : Type 1} {𝓤 : URA M} {H : Heap 𝓤} {A : Atoms 𝓤} {K : Type 0} {W : Given 𝓤 H A} {Γ : List (Item 𝓤)} {E : Env 𝓤 H} where

@@ -9,7 +9,7 @@ use lib.ListN.{length, take, drop, replicate, length-append, length-take, length
 use lib.Seq.{length-take-le, take-all, take-at, drop-at, drop-drop}
 use Rattle.octets.specs.Bytes.{Bytes}
 use Rattle.octets.specs.Part.{splice}
-use Rattle.octets.specs.Field.{field, Holds}
+use Rattle.octets.specs.Field.{field, FieldHolds}
 
 pub length-field : (n : ℕ) (xs : Bytes) → length (field n xs) ≡ n
 unfolding field
@@ -50,11 +50,11 @@ field-exact n xs e =
 -- ---- a text that is built piece by piece
 
 -- spaces hold no text yet
-pub holds-none : (n : ℕ) (d : Bytes) → d ≡ replicate n (code " ") → Holds n [] d 0
+pub holds-none : (n : ℕ) (d : Bytes) → d ≡ replicate n (code " ") → FieldHolds n [] d 0
 holds-none n d e = record { bytes = e ∙ sym (field-fits n [] (omega arith) ∙ rw sub-zero); place = omega arith }
 
 -- one piece more, as far as it fits
-more-bytes : (n : ℕ) (xs s d : Bytes) (at : ℕ) → Holds n xs d at → splice d at (take (n - at) s) ≡ field n (xs ++ s)
+more-bytes : (n : ℕ) (xs s d : Bytes) (at : ℕ) → FieldHolds n xs d at → splice d at (take (n - at) s) ≡ field n (xs ++ s)
 unfolding splice
 more-bytes n xs s d at holds =
     let sp : ℕ = code " " in
@@ -75,7 +75,7 @@ more-bytes n xs s d at holds =
     ∙ ap (λ (j : ℕ). replicate j sp) count in
     rw (left, text, after) (sym (field-parts n (xs ++ s) ∙ ap (λ (l : Bytes). l ++ rest) (take-both n xs s) ∙ append-assoc (take n xs) t rest))
 
-pub holds-more : {n : ℕ} {xs d d' : Bytes} {at r : ℕ} (s : Bytes) → Holds n xs d at → (d' ≡ splice d at (take (length d - at) s)) × (r ≡ min (length d) (at + length s)) → Holds n (xs ++ s) d' r
+pub holds-more : {n : ℕ} {xs d d' : Bytes} {at r : ℕ} (s : Bytes) → FieldHolds n xs d at → (d' ≡ splice d at (take (length d - at) s)) × (r ≡ min (length d) (at + length s)) → FieldHolds n (xs ++ s) d' r
 holds-more {n} {xs} {d} {d'} {at} {r} s holds appended =
     let size : length d ≡ n = ap length (holds .bytes) ∙ length-field n xs in
     let fits : d' ≡ splice d at (take (n - at) s) = rw size at (appended .0) in

@@ -16,7 +16,7 @@ use Rattle.octets.specs.Search.{firstFrom}
 use Rattle.octets.specs.Part.{part}
 use Rattle.octets.specs.Text.{text}
 use Rattle.octets.proofs.ChoiceLaws.{both-first, both-second}
-use Rattle.octets.specs.Same.{sameBytes, placeAmong, place, oneOf, beside}
+use Rattle.octets.specs.Same.{sameBytes, placeAmong, place, oneOf, lookUp}
 
 -- ---- the test tells equality
 
@@ -62,13 +62,13 @@ same-apart xs ys e p = false≢true (sym e ∙ ap (sameBytes xs) (sym p) ∙ sam
 -- ---- a chain of tests, one for each code: at test k the first k codes are passed
 
 module _ {ℓ} {A : Type ℓ} (table : List (String × A)) (other : A) (k : ℕ) (h : k < length table) (v : Bytes) (b : Bool) where
-  pub beside-is : b ≡ sameBytes v (text (getD table k ("", other) .0)) → b ≡ true → getD table k ("", other) .1 ≡ beside (drop k table) other v
-  unfolding beside
-  beside-is e t = rw (drop-cons table k ("", other) h, sym e ∙ t)
+  pub look-up-found : b ≡ sameBytes v (text (getD table k ("", other) .0)) → b ≡ true → getD table k ("", other) .1 ≡ lookUp (drop k table) other v
+  unfolding lookUp
+  look-up-found e t = rw (drop-cons table k ("", other) h, sym e ∙ t)
 
-  pub beside-not : b ≡ sameBytes v (text (getD table k ("", other) .0)) → b ≡ false → beside (drop k table) other v ≡ beside (drop (suc k) table) other v
-  unfolding beside
-  beside-not e t = rw (drop-cons table k ("", other) h, sym e ∙ t)
+  pub look-up-next : b ≡ sameBytes v (text (getD table k ("", other) .0)) → b ≡ false → lookUp (drop k table) other v ≡ lookUp (drop (suc k) table) other v
+  unfolding lookUp
+  look-up-next e t = rw (drop-cons table k ("", other) h, sym e ∙ t)
 
 -- ---- codes of one width, written one after the other
 

@@ -11,6 +11,6 @@ unfoldable pub field : ℕ → Bytes → Bytes
 field n xs = take n (xs ++ replicate n (code " "))
 
 -- the bytes d are the field of n bytes that holds xs, and `at` is the place behind xs
-pub record Holds (n : ℕ) (xs d : Bytes) (at : ℕ) : Type 0 where
+pub record FieldHolds (n : ℕ) (xs d : Bytes) (at : ℕ) : Type 0 where
   pub bytes : d ≡ field n xs
   pub place : at ≡ min n (length xs)

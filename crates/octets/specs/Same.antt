@@ -31,7 +31,7 @@ place (c ∷ cs) v = choose (sameBytes v (text c)) 0 (suc (place cs v))
 unfoldable pub oneOf : List String → Bytes → Bool
 oneOf codes v = ltb (place codes v) (length codes)
 
--- what stands beside the first code that is the value, `other` where none is
-unfoldable pub beside {ℓ} : {A : Type ℓ} → List (String × A) → A → Bytes → A
-beside [] other v = other
-beside (c ∷ cs) other v = choose (sameBytes v (text (c .0))) (c .1) (beside cs other v)
+-- the entry of a table for the first code that is the value, `other` where none is
+unfoldable pub lookUp {ℓ} : {A : Type ℓ} → List (String × A) → A → Bytes → A
+lookUp [] other v = other
+lookUp (c ∷ cs) other v = choose (sameBytes v (text (c .0))) (c .1) (lookUp cs other v)

@@ -4,7 +4,7 @@ ghost use Prim.Native.Nat.{ℕ, _+_, _≤_};
 ghost use mathlib.Core.List.{List, _++_};
 ghost use lib.ListN.{length};
 ghost use Rattle.octets.specs.Part.{splice};
-ghost use Rattle.octets.specs.Field.{field, Holds};
+ghost use Rattle.octets.specs.Field.{field, FieldHolds};
 ghost use Rattle.price.specs.Price.{dropZeros, trimZeros, shownWhole, shownDecimals, showsMinus, shownSign, shownPrice};
 ghost use Rattle.price.specs.Examples.{Prices-shown};
 use numbers::decimals_of;
@@ -67,9 +67,9 @@ fn sign_of<'a>(v: &'a [u8]) -> &'a [u8]
     part_of(v, 0, 0)
 }
 
-// The text in dst goes on with the digits before the point.
+// Appends the digits before the point to the text in dst.
 fn append_whole(dst: &mut [u8], at: usize, w: &[u8]) -> usize
-    ensures { λ r. ⌜ ((n : ℕ) (xs : List ℕ) → Holds n xs (now (dst .entry)) at → Holds n (xs ++ shownWhole (now (w .entry))) (now (dst .exit)) r) ⌝ }
+    ensures { λ r. ⌜ ((n : ℕ) (xs : List ℕ) → FieldHolds n xs (now (dst .entry)) at → FieldHolds n (xs ++ shownWhole (now (w .entry))) (now (dst .exit)) r) ⌝ }
 {
     let kept = drop_zeros(w);
     if kept.len() == 0 {
@@ -78,9 +78,9 @@ fn append_whole(dst: &mut [u8], at: usize, w: &[u8]) -> usize
     append(dst, at, kept)
 }
 
-// The text in dst goes on with a point and the digits after it.
+// Appends a point and the digits after it to the text in dst.
 fn append_decimals(dst: &mut [u8], at: usize, d: &[u8]) -> usize
-    ensures { λ r. ⌜ ((n : ℕ) (xs : List ℕ) → Holds n xs (now (dst .entry)) at → Holds n (xs ++ shownDecimals (now (d .entry))) (now (dst .exit)) r) ⌝ }
+    ensures { λ r. ⌜ ((n : ℕ) (xs : List ℕ) → FieldHolds n xs (now (dst .entry)) at → FieldHolds n (xs ++ shownDecimals (now (d .entry))) (now (dst .exit)) r) ⌝ }
 {
     let rest = trim_zeros(d);
     if rest.len() == 0 {

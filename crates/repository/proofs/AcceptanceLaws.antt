@@ -25,12 +25,12 @@ use Rattle.ledger.proofs.RightHeader.{rows-fit, capacity-most}
 use Rattle.submission.specs.Opening.{Limits}
 use Rattle.submission.specs.Lent.{Lent}
 use Rattle.submission.specs.Submission.{Submitted, swapOf, actionIn, verdictOn, capOn, maskedTerms, termsFor, placeFor, rowFor, ledgerFor, lineFor, lentFor, accepted, refused, concluded, submitted}
-use Rattle.submission.proofs.Acceptance.{Accepting, accepting, Fits, tape-test, all-fit}
+use Rattle.submission.proofs.Acceptance.{Accepted, as-accepted, HasPlace, tape-test, has-place}
 use Rattle.repository.specs.declared.decide.Acceptance.{Acceptance}
 use Rattle.repository.specs.declared.decide.Decision.{Decision}
 use Rattle.repository.specs.declared.decide.Decision.the-variants.{Refused, Value}
 use Rattle.repository.specs.Answers.{submissionAnswer}
-use Rattle.repository.specs.Decision.{acceptanceIn, decidedOn, decision, decisionAnswer, Fitting}
+use Rattle.repository.specs.Decision.{acceptanceIn, decidedOn, decision, decisionAnswer, Writable}
 
 -- the value that was looked up fits the row
 pub uti-fits : (u v : Bytes) → length v ≤ utiSize → u ≡ v → length u ≤ utiSize
@@ -76,25 +76,25 @@ module _ (limits : Limits) (lent : Lent) (m : Bytes) where
   -- ---- an accepted message
 
   -- where the decision is to go on, the message is accepted, and the acceptance is the one of its action
-  abbrev Accepts : Decision → Type 0
-  Accepts (Refused v e) = Unit {0}
-  Accepts (Value s) = (c : Accepting limits lent m) × (s ≡ acceptanceIn (c .action) (lent .ledger) m)
+  abbrev DecidedWith : Decision → Type 0
+  DecidedWith (Refused v e) = Unit {0}
+  DecidedWith (Value s) = (c : Accepted limits lent m) × (s ≡ acceptanceIn (c .action) (lent .ledger) m)
 
-  accepts-by : (r : Checked) → actionIn m ≡ r → Accepts (decidedOn (verdictOn limits lent m) r (lent .ledger) m)
-  accepts-by (checked.Fault code) g = tt
-  accepts-by (checked.Value a) g = by (eqb (verdictOn limits lent m .0) 0) refl
+  decided-with-by : (r : Checked) → actionIn m ≡ r → DecidedWith (decidedOn (verdictOn limits lent m) r (lent .ledger) m)
+  decided-with-by (checked.Fault code) g = tt
+  decided-with-by (checked.Value a) g = by (eqb (verdictOn limits lent m .0) 0) refl
     where
-      by : (b : Bool) → eqb (verdictOn limits lent m .0) 0 ≡ b → Accepts (choose b (Value (acceptanceIn a (lent .ledger) m)) (Refused (verdictOn limits lent m .0) (verdictOn limits lent m .1)))
+      by : (b : Bool) → eqb (verdictOn limits lent m .0) 0 ≡ b → DecidedWith (choose b (Value (acceptanceIn a (lent .ledger) m)) (Refused (verdictOn limits lent m .0) (verdictOn limits lent m .1)))
       by true h =
-          let c : Accepting limits lent m = accepting limits lent m (eqb-true _ _ h) in
+          let c : Accepted limits lent m = as-accepted limits lent m (eqb-true _ _ h) in
           let both : checked.Value a ≡ checked.Value (c .action) = sym g ∙ c .reads in
           let same : a ≡ c .action = cc in
           (c, ap (λ b. acceptanceIn b (lent .ledger) m) same)
       by false h = tt
 
-  accepts : (d : Decision) → decision limits lent m ≡ d → Accepts d
+  decided-with : (d : Decision) → decision limits lent m ≡ d → DecidedWith d
   unfolding decision
-  accepts d e = subst Accepts e (accepts-by (actionIn m) refl)
+  decided-with d e = subst DecidedWith e (decided-with-by (actionIn m) refl)
 
 -- a cap that the header has is one that masking takes
 cap-fits : (a : Action) (l m : Bytes) → areCaps (capsIn l) ≡ true → choose (isFull a) (capOn (capsIn l) m) 0 ≤ largestCap
@@ -106,7 +106,7 @@ cap-fits a l m right = by (isFull a)
     by false = omega arith
 
 -- a new swap stands behind the rows in use, any other one where it was found
-one-place : {largest : ℕ} {l m : Bytes} {a : Action} → Fits largest l m a → (b : Bool) → isNew a ≡ b → placeFor a l m ≡ placeOf l (swapOf m)
+one-place : {largest : ℕ} {l m : Bytes} {a : Action} → HasPlace largest l m a → (b : Bool) → isNew a ≡ b → placeFor a l m ≡ placeOf l (swapOf m)
 unfolding placeFor isKnown placeIn
 one-place {l = l} {m = m} f true e =
     let most : placeOf l (swapOf m) ≤ rowsInUse l = omega (arith, first-most (λ k. holdsUti (swapOf m) (rowAt l k)) 0 (rowsInUse l)) in
@@ -114,10 +114,10 @@ one-place {l = l} {m = m} f true e =
     rw e (omega arith)
 one-place f false e = rw e
 
-fitting-acceptance : {limits : Limits} {lent : Lent} {m : Bytes} (c : Accepting limits lent m) → limits .largest < 256 ^ u32 → Fitting lent m (acceptanceIn (c .action) (lent .ledger) m)
+writable-acceptance : {limits : Limits} {lent : Lent} {m : Bytes} (c : Accepted limits lent m) → limits .largest < 256 ^ u32 → Writable lent m (acceptanceIn (c .action) (lent .ledger) m)
 unfolding headerOf
-fitting-acceptance {limits} {lent} {m} c small =
-    let f : Fits (limits .largest) (lent .ledger) m (c .action) = all-fit c in
+writable-acceptance {limits} {lent} {m} c small =
+    let f : HasPlace (limits .largest) (lent .ledger) m (c .action) = has-place c in
     let place : placeFor (c .action) (lent .ledger) m ≡ placeOf (lent .ledger) (swapOf m) = one-place f (isNew (c .action)) refl in
     record {
       acceptance = refl;
@@ -131,14 +131,14 @@ fitting-acceptance {limits} {lent} {m} c small =
     }
 
 -- reading has decided: writing cannot fail
-pub fitting : (limits : Limits) (lent : Lent) (m : Bytes) (s : Acceptance) → limits .largest < 256 ^ u32 → decision limits lent m ≡ Value s → Fitting lent m s
-fitting limits lent m s small e =
-    let c = accepts limits lent m (Value s) e in
-    subst (λ x. Fitting lent m x) (sym (c .1)) (fitting-acceptance (c .0) small)
+pub writable : (limits : Limits) (lent : Lent) (m : Bytes) (s : Acceptance) → limits .largest < 256 ^ u32 → decision limits lent m ≡ Value s → Writable lent m s
+writable limits lent m s small e =
+    let c = decided-with limits lent m (Value s) e in
+    subst (λ x. Writable lent m x) (sym (c .1)) (writable-acceptance (c .0) small)
 
--- ---- what the writes of an acceptance come to
+-- ---- what the writes of an acceptance leave
 
-module _ {lent : Lent} {m : Bytes} {s : Acceptance} (f : Fitting lent m s) where
+module _ {lent : Lent} {m : Bytes} {s : Acceptance} (f : Writable lent m s) where
   abbrev l : Bytes
   l = lent .ledger
 

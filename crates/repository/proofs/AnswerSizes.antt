@@ -26,7 +26,7 @@ use Rattle.repository.specs.declared.decide.Decision.{Decision}
 use Rattle.repository.specs.declared.decide.Decision.the-variants.{Refused, Value}
 use Rattle.repository.specs.Answers.{carriedLimit}
 use Rattle.repository.specs.Decision.{decision, decisionAnswer}
-use Rattle.repository.proofs.AcceptanceLaws.{decision-answers, fitting}
+use Rattle.repository.proofs.AcceptanceLaws.{decision-answers, writable}
 
 pub carried : (a b : Answer) → a ≡ b → b .identifier < carriedLimit → a .identifier < carriedLimit
 carried a b e h = rw e h
@@ -44,7 +44,7 @@ submission-small limits lent m small = by (decision limits lent m) refl
 
     by : (d : Decision) → decision limits lent m ≡ d → submitted limits lent m .identifier < carriedLimit
     by (Refused v e) g = omega (arith, is (Refused v e) g)
-    by (Value s) g = omega (arith, is (Value s) g, least (writesLine (s .action)) (s .next) (fitting limits lent m s small g .next))
+    by (Value s) g = omega (arith, is (Value s) g, least (writesLine (s .action)) (s .next) (writable limits lent m s small g .next))
 
 -- a right row has an identifier below the next one
 swap-small : (largest : ℕ) (l u : Bytes) → headerRight largest l ≡ true → hasWrongRow (nextIdentifier l) (swapIn l u) ≡ false → swapIdentifier l u ≤ identifierLimit

@@ -27,7 +27,7 @@ use Rattle.repository.specs.Answers.{answerWith, refusalAnswer}
 
 -- ---- the decision
 
--- what an accepted message goes on with, by what is known of the swap, the header's numbers and the cap that applies
+-- an acceptance: what an accepted message is written by, from what is known of the swap, the header's numbers and the cap that applies
 abbrev pub acceptanceFor : Action → Header → Swap → ℕ → Acceptance
 acceptanceFor a h s cap =
     record { action = a; place = s .place; status = nextStatus a (s .status); previous = s .identifier; rows = h .rows; next = h .next; cap = cap }
@@ -40,7 +40,7 @@ acceptanceIn a l m = acceptanceFor a (headerOf l) (swapIn l (swapOf m)) (choose 
 abbrev pub decided : ℕ × ℕ → Acceptance → Decision
 decided v s = choose (eqb (v .0) 0) (Value s) (Refused (v .0) (v .1))
 
--- where 6 is broken there is no action to go on with
+-- where 6 is broken there is no action
 abbrev pub decidedOn : ℕ × ℕ → Checked → Bytes → Bytes → Decision
 decidedOn v (checked.Fault code) l m = Refused (v .0) (v .1)
 decidedOn v (checked.Value a) l m = decided v (acceptanceIn a l m)
@@ -73,7 +73,7 @@ HeaderRead header l = (header ≡ headerOf l) × (rowStart (header .rows) ≤ le
 
 -- ---- what the writes of an acceptance need, so that they cannot fail
 
-pub record Fitting (lent : Lent) (m : Bytes) (s : Acceptance) : Type 0 where
+pub record Writable (lent : Lent) (m : Bytes) (s : Acceptance) : Type 0 where
   pub acceptance : s ≡ acceptanceIn (s .action) (lent .ledger) m
   pub tape : lineSize ≤ length (lent .buffers .tape)
   pub uti : length (swapOf m) ≤ utiSize

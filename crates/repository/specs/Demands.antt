@@ -1,14 +1,15 @@
 -- The demands, as the contracts of the exported operations cite them: each is a theorem of `submission`. An answer in one number has its own law.
+use Rattle.submission.specs.Opening.{documentLimits}
 use Rattle.submission.specs.Demand1.{Submission-answers, Opening-answers, Question-answers}
-use Rattle.submission.specs.Demand2.{Verdict-exactly, Checking-order, Accepted-exactly, Acceptance-writes, Opening-exactly, Opening-writes, Question-exactly}
-use Rattle.submission.specs.Demand3.{Same-tapes}
-use Rattle.submission.specs.Published.{Tape-told}
-use Rattle.submission.specs.Counting.{Identifier-with-line, Identifier-counts, Quiet-call}
+use Rattle.submission.specs.Demand2.{Verdict-exactly, Checking-order, Accepted-exactly, Writes-under, Acceptance-writes, Opening-exactly, Opening-writes, Opening-passes, Question-exactly}
+use Rattle.submission.specs.Demand3.{Same-tapes-under, Same-tapes, Masked-terms-public}
+use Rattle.submission.specs.Published.{Tape-published-under, Tape-published}
+use Rattle.submission.specs.Counting.{Identifier-with-line, Identifier-counts-under, Identifier-counts, Quiet-call}
 use Rattle.repository.specs.Answers.{Number-carries}
 
 -- opening: demands 1 and 2
 abbrev pub Opening-demands : Type 0
-Opening-demands = Opening-answers × Opening-exactly × Opening-writes
+Opening-demands = Opening-answers × Opening-exactly × Opening-writes × Opening-passes
 
 -- submitting: demands 1, 2 and 3, and what they rest on
 pub record Submission-demands : Type 0 where
@@ -18,11 +19,18 @@ pub record Submission-demands : Type 0 where
   pub accepted : Accepted-exactly
   pub writes : Acceptance-writes
   pub tapes : Same-tapes
-  pub told : Tape-told
+  pub published : Tape-published
   pub line : Identifier-with-line
   pub counts : Identifier-counts
   pub quiet : Quiet-call
   pub number : Number-carries
+  -- whatever the parties, package names, settlement dates and true amounts
+  pub terms : Masked-terms-public
+  -- those that ask something of the limits, at document 01's
+  pub writes-here : Writes-under documentLimits
+  pub tapes-here : Same-tapes-under documentLimits
+  pub published-here : Tape-published-under documentLimits
+  pub counts-here : Identifier-counts-under documentLimits
 
 -- the status question: demands 1 and 2
 abbrev pub Question-demands : Type 0

@@ -11,7 +11,7 @@ ghost use Rattle.ledger.specs.Rows.{rowAt, storedTerms};
 ghost use Rattle.ledger.specs.Line.{line};
 ghost use Rattle.submission.specs.Lent.{lentOf};
 ghost use Rattle.submission.specs.Submission.{tapeAfter, lentFor};
-ghost use Rattle.repository.specs.Decision.{Fitting};
+ghost use Rattle.repository.specs.Decision.{Writable};
 use crate::decide::Acceptance;
 use actions::Action;
 use actions::is_full;
@@ -50,7 +50,7 @@ fn publish(tape: &mut [u8], a: Action, identifier: u64, previous: u64, m: &[u8],
 
 // Writes the line, the row and the header's two numbers.
 pub fn apply(l: &mut [u8], tape: &mut [u8], m: &[u8], acceptance: Acceptance)
-    requires { ⌜ Fitting (lentOf (now l) (now tape)) (now m) acceptance ⌝ }
+    requires { ⌜ Writable (lentOf (now l) (now tape)) (now m) acceptance ⌝ }
     ensures { λ _. ⌜ lentOf (now (l .exit)) (now (tape .exit)) ≡ lentFor (acceptance .action) (lentOf (now (l .entry)) (now (tape .entry))) (now (m .entry)) ⌝ }
 {
     let a = acceptance.action;

@@ -1,4 +1,4 @@
-// What a message comes to: rules 3 to 18 in checking order. Reads only.
+// The decision on a message: rules 3 to 18 in checking order. Reads only.
 ghost use Prim.Native.Nat.{ℕ};
 ghost use mathlib.Core.Path.{_≡_};
 ghost use Rattle.octets.specs.Bytes.{Bytes};
@@ -28,7 +28,7 @@ use actions::repeats_time;
 use actions::status_after;
 use actions::writes_line;
 use elements::ASSET_CLASS;
-use elements::EXECUTION_TIME;
+use elements::EXECUTION_TIMESTAMP;
 use elements::UTI;
 use ledger::Caps;
 use ledger::Header;
@@ -45,7 +45,7 @@ use octets::same;
 use rules::Judged;
 use rules::judge;
 
-// What an accepted message goes on with: its action, the place of the swap's row, the swap's next status and last identifier, the header's
+// What an accepted message is written by: its action, the place of the swap's row, the swap's next status and last identifier, the header's
 // numbers, and the cap that applies.
 pub struct Acceptance {
     pub action: Action,
@@ -57,7 +57,7 @@ pub struct Acceptance {
     pub cap: u64,
 }
 
-// A refusal, with verdict and element, or what an accepted message goes on with.
+// A refusal, with verdict and element, or an acceptance.
 pub enum Decision {
     Refused(u8, u8),
     Value(Acceptance),
@@ -99,7 +99,7 @@ fn has_other_time(a: Action, time: &[u8], m: &[u8]) -> bool
     if !repeats_time(a) {
         return false;
     }
-    !same(element(m, EXECUTION_TIME), time)
+    !same(element(m, EXECUTION_TIMESTAMP), time)
 }
 
 // Whether a new swap finds no room (17).
@@ -124,7 +124,7 @@ fn finds_spent(a: Action, header: Header) -> bool
 
 // Each function below judges one rule, in checking order, and hands on to the next. The number is the rule's.
 
-// 3. The first rule that the message breaks, or what it goes on with.
+// 3. The first rule that the message breaks, or its acceptance.
 pub fn decide(l: &[u8], tape: &[u8], m: &[u8], longest: usize, largest: u32) -> Decision
     ensures { λ r. ⌜ r ≡ decision (limitsOf longest largest) (lentOf (now (l .entry)) (now (tape .entry))) (now (m .entry)) ⌝ }
 {

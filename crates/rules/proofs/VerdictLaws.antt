@@ -11,17 +11,17 @@ use Prim.Native.String.{String}
 use Rattle.octets.specs.Bytes.{Bytes}
 use Rattle.octets.specs.Choice.{choose, both}
 use Rattle.octets.specs.Text.{text}
-use Rattle.octets.specs.Same.{sameBytes, beside}
+use Rattle.octets.specs.Same.{sameBytes, lookUp}
 use Rattle.octets.proofs.ChoiceLaws.{both-first, both-second}
 use Rattle.message.specs.Values.{value}
 use Rattle.actions.specs.declared.Action.{Action}
 use Rattle.actions.specs.declared.Checked.{Checked}
 use Rattle.actions.specs.declared.Checked.the-variants.{Fault, Value}
-use Rattle.actions.specs.Actions.{actionCode, actionCodes, actionOf}
+use Rattle.actions.specs.Actions.{actionType, actionCodes, actionOf}
 use Rattle.elements.specs.Forms.{isRead}
 use Rattle.rules.specs.declared.checks.Check.{Check}
 use Rattle.rules.specs.declared.checks.Check.the-variants.{Needed, Taken, Formed, Due}
-use Rattle.rules.specs.Verdicts.{noAction, neededMissing, notTaken, formBroken, dueMissing}
+use Rattle.rules.specs.Verdicts.{actionWrong, elementMissing, elementNotTaken, formBroken, conditionalMissing}
 use Rattle.rules.specs.Findings.{broken, lowest, firstBroken, findingOf, isOneOf, AllPassed, FirstBroken, LowestAtFault}
 use Rattle.rules.specs.Rules.{actionIn, atFault, numberOf, finding, rulesOf, rulesFor, rules, verdict, conclude, judged, verdictOf}
 use Rattle.rules.proofs.FindingLaws.{unused, distinct, namedBy, names-none, broken-first, first-broken, all-passed, none-broken, lowest-broken}
@@ -33,7 +33,7 @@ differ (Fault code) longest m = refl
 differ (Value a) longest m = refl
 
 pub numbers-differ : (longest : ℕ) (m : Bytes) → distinct (rules longest m) ≡ true
-numbers-differ longest m = differ (actionOf (value actionCode m)) longest m
+numbers-differ longest m = differ (actionOf (value actionType m)) longest m
 
 -- the verdict is n, with element e, exactly where the rule with number n is broken, names e, and no earlier one is broken
 pub verdict-exactly : (longest : ℕ) (m : Bytes) (n e : ℕ) → 0 < n → (verdict longest m ≡ (n, e)) ↔ FirstBroken (rules longest m) n e
@@ -58,20 +58,20 @@ allRead : List (String × Checked) → Bool
 allRead [] = true
 allRead (c ∷ cs) = both (isRead (c .1)) (allRead cs)
 
-fault-code : (table : List (String × Checked)) (v : Bytes) (e : ℕ) → allRead table ≡ true → beside table (Fault actionCode) v ≡ Fault e → e ≡ actionCode
-unfolding beside allRead
+fault-code : (table : List (String × Checked)) (v : Bytes) (e : ℕ) → allRead table ≡ true → lookUp table (Fault actionType) v ≡ Fault e → e ≡ actionType
+unfolding lookUp allRead
 fault-code [] v e all f = cc
 fault-code (c ∷ cs) v e all f =
     by (sameBytes v (text (c .0))) (c .1) (both-first (isRead (c .1)) (allRead cs) all) f (fault-code cs v e (both-second (isRead (c .1)) (allRead cs) all))
   where
-    by : (t : Bool) (r : Checked) → isRead r ≡ true → choose t r (beside cs (Fault actionCode) v) ≡ Fault e → (beside cs (Fault actionCode) v ≡ Fault e → e ≡ actionCode) → e ≡ actionCode
+    by : (t : Bool) (r : Checked) → isRead r ≡ true → choose t r (lookUp cs (Fault actionType) v) ≡ Fault e → (lookUp cs (Fault actionType) v ≡ Fault e → e ≡ actionType) → e ≡ actionType
     by true (Fault d) is g rest = absurd (false≢true is)
     by true (Value a) is g rest =
         let z : _≡_ {A = ℕ} 0 1 = cc in
         absurd (omega arith)
     by false r is g rest = rest g
 
-module _ (longest : ℕ) (m : Bytes) (a : Action) (read : actionOf (value actionCode m) ≡ Value a) where
+module _ (longest : ℕ) (m : Bytes) (a : Action) (read : actionOf (value actionType m) ≡ Value a) where
   -- a rule whose number is the verdict is broken
   broken-at : (n e : ℕ) → 0 < n → verdict longest m ≡ (n, e) → findingOf n (rulesFor (Value a) longest m) ≡ broken e
   unfolding verdict
@@ -90,7 +90,7 @@ module _ (longest : ℕ) (m : Bytes) (a : Action) (read : actionOf (value action
 
 -- the numbers that name an element
 abbrev pub namingNumbers : List ℕ
-namingNumbers = noAction ∷ neededMissing ∷ notTaken ∷ formBroken ∷ dueMissing ∷ []
+namingNumbers = actionWrong ∷ elementMissing ∷ elementNotTaken ∷ formBroken ∷ conditionalMissing ∷ []
 
 -- under every other one the element is 0
 pub others-name-none : (longest : ℕ) (m : Bytes) → isOneOf namingNumbers (verdict longest m .0) ≡ false → verdict longest m .1 ≡ 0
@@ -102,18 +102,18 @@ others-name-none longest m other = names-none namingNumbers (rules longest m) (b
     by (Value a) = refl
 
 -- 6: the element is the action's
-pub action-at-fault : (v : Bytes) (e : ℕ) → finding (actionOf v) ≡ broken e → e ≡ actionCode
+pub action-at-fault : (v : Bytes) (e : ℕ) → finding (actionOf v) ≡ broken e → e ≡ actionType
 unfolding actionOf allRead
 action-at-fault v e f = fault-code actionCodes v e refl (of-finding (actionOf v) e f)
 
-pub action-names-itself : (longest : ℕ) (m : Bytes) (e : ℕ) → verdict longest m ≡ (noAction, e) → e ≡ actionCode
+pub action-names-itself : (longest : ℕ) (m : Bytes) (e : ℕ) → verdict longest m ≡ (actionWrong, e) → e ≡ actionType
 unfolding verdict rulesFor findingOf
-action-names-itself longest m e v = action-at-fault (value actionCode m) e (broken-first (rules longest m) noAction e (numbers-differ longest m) (lit< tt) v .0)
+action-names-itself longest m e v = action-at-fault (value actionType m) e (broken-first (rules longest m) actionWrong e (numbers-differ longest m) (lit< tt) v .0)
 
 -- the answer of judging has the verdict's number and element
 pub judged-verdict : (longest : ℕ) (m : Bytes) → verdictOf (judged longest m) ≡ verdict longest m
 unfolding judged
-judged-verdict longest m = by (actionOf (value actionCode m)) (eqb (verdict longest m .0) 0) refl
+judged-verdict longest m = by (actionOf (value actionType m)) (eqb (verdict longest m .0) 0) refl
   where
     none : eqb (verdict longest m .0) 0 ≡ true → (0, 0) ≡ verdict longest m
     none e = sym (accepted-exactly longest m .1 (accepted-exactly longest m .0 (eqb-true _ _ e)))

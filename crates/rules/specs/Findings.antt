@@ -38,7 +38,7 @@ abbrev pub ruleFinding : Rule → Finding
 ruleFinding (test n t) = brokenIf t
 ruleFinding (naming n f) = f
 
--- what a rule with number n finds, and what those after it come to
+-- the verdict of a rule with number n, or that of the rules after it where it is passed
 abbrev pub orElse : ℕ → Finding → ℕ × ℕ → ℕ × ℕ
 orElse n passed rest = rest
 orElse n (broken e) rest = (n, e)

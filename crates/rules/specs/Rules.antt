@@ -14,14 +14,14 @@ use Rattle.message.specs.Values.{value, isThere}
 use Rattle.actions.specs.declared.Action.{Action}
 use Rattle.actions.specs.declared.Checked.{Checked}
 use Rattle.actions.specs.declared.Checked.the-variants as checked
-use Rattle.actions.specs.Actions.{actionCode, actionOf, isFull}
+use Rattle.actions.specs.Actions.{actionType, actionOf, isFull}
 use Rattle.elements.specs.Messages.{hasLayout, takes, needs}
 use Rattle.actions.specs.Matrix.{pairAllowed}
-use Rattle.elements.specs.Codes.{eventType, reportingTime, executionTime, effectiveDate, expirationDate, settlementDate, packagePrice, priceNotation}
+use Rattle.elements.specs.Codes.{eventType, reportingTimestamp, executionTimestamp, effectiveDate, expirationDate, settlementDate, packagePrice, priceNotation}
 use Rattle.elements.specs.Forms.{hasForm}
 use Rattle.elements.specs.Conditions.{isPackage, valueIs, factsOf, isDue}
 use Rattle.elements.specs.declared.conditions.Facts.{Facts}
-use Rattle.rules.specs.Verdicts.{layoutWrong, noAction, neededMissing, notTaken, formBroken, notPair, dueMissing, priceLong, orderWrong}
+use Rattle.rules.specs.Verdicts.{layoutWrong, actionWrong, elementMissing, elementNotTaken, formBroken, notAPair, conditionalMissing, priceTooLong, datesDisordered}
 use Rattle.rules.specs.Findings.{Finding, passed, broken, lowest, Rule, test, naming, firstBroken, fromRule}
 use Rattle.rules.specs.declared.Judged.{Judged}
 use Rattle.rules.specs.declared.Judged.the-variants as answer
@@ -53,10 +53,10 @@ FactsFor Due f m = f ≡ factsOf m
 
 -- the number of a check
 abbrev pub numberOf : Check → ℕ
-numberOf Needed = neededMissing
-numberOf Taken = notTaken
+numberOf Needed = elementMissing
+numberOf Taken = elementNotTaken
 numberOf Formed = formBroken
-numberOf Due = dueMissing
+numberOf Due = conditionalMissing
 
 -- a price with notation 3 has at most 11 digits, 10 after the point (12)
 abbrev pub notationThreeDigits : ℕ
@@ -68,8 +68,8 @@ notationThreeDecimals = 10
 unfoldable pub longPrice : Bytes → Bool
 longPrice v = either (ltb notationThreeDigits (length (wholeOf v) + length (decimalsOf v))) (ltb notationThreeDecimals (length (decimalsOf v)))
 
-unfoldable pub priceTooLong : Bytes → Bool
-priceTooLong m = both (isPackage m) (both (valueIs priceNotation (text "3") m) (longPrice (unsignedOf (value packagePrice m))))
+unfoldable pub hasLongPrice : Bytes → Bool
+hasLongPrice m = both (isPackage m) (both (valueIs priceNotation (text "3") m) (longPrice (unsignedOf (value packagePrice m))))
 
 -- dates and times of a full message are out of order (13)
 abbrev pub elementBefore : Bytes → ℕ → ℕ → Bool
@@ -79,18 +79,18 @@ unfoldable pub outOfOrder : Action → Bytes → Bool
 outOfOrder a m =
     both (isFull a)
     (either (elementBefore m expirationDate effectiveDate)
-    (either (elementBefore m settlementDate expirationDate) (elementBefore m reportingTime executionTime)))
+    (either (elementBefore m settlementDate expirationDate) (elementBefore m reportingTimestamp executionTimestamp)))
 
 -- rules 7 to 13, for the message's action
 unfoldable pub rulesOf : Action → Bytes → List Rule
 rulesOf a m =
-    naming neededMissing (lowest (atFault Needed a m))
-    ∷ naming notTaken (lowest (atFault Taken a m))
+    naming elementMissing (lowest (atFault Needed a m))
+    ∷ naming elementNotTaken (lowest (atFault Taken a m))
     ∷ naming formBroken (lowest (atFault Formed a m))
-    ∷ test notPair (not (pairAllowed a (value eventType m)))
-    ∷ naming dueMissing (lowest (atFault Due a m))
-    ∷ test priceLong (priceTooLong m)
-    ∷ test orderWrong (outOfOrder a m)
+    ∷ test notAPair (not (pairAllowed a (value eventType m)))
+    ∷ naming conditionalMissing (lowest (atFault Due a m))
+    ∷ test priceTooLong (hasLongPrice m)
+    ∷ test datesDisordered (outOfOrder a m)
     ∷ []
 
 -- where 6 is broken there is no action, and nothing is judged after it
@@ -100,7 +100,7 @@ afterAction (checked.Value a) m = rulesOf a m
 
 -- the rules after the layout's, by what the action's element says
 abbrev pub laidRules : Checked → Bytes → List Rule
-laidRules action m = naming noAction (finding action) ∷ afterAction action m
+laidRules action m = naming actionWrong (finding action) ∷ afterAction action m
 
 -- the rules in checking order
 unfoldable pub rulesFor : Checked → ℕ → Bytes → List Rule
@@ -108,7 +108,7 @@ rulesFor action longest m = test layoutWrong (not (hasLayout longest m)) ∷ lai
 
 -- what the value of the action's element says
 abbrev pub actionIn : Bytes → Checked
-actionIn m = actionOf (value actionCode m)
+actionIn m = actionOf (value actionType m)
 
 abbrev pub rules : ℕ → Bytes → List Rule
 rules longest m = rulesFor (actionIn m) longest m

@@ -6,33 +6,33 @@ abbrev pub layoutWrong : ℕ
 layoutWrong = 5
 
 -- The action is missing or not one of the seven.
-abbrev pub noAction : ℕ
-noAction = 6
+abbrev pub actionWrong : ℕ
+actionWrong = 6
 
 -- An element needed by all, or by a full action, is missing.
-abbrev pub neededMissing : ℕ
-neededMissing = 7
+abbrev pub elementMissing : ℕ
+elementMissing = 7
 
 -- TERM, EROR or PRTO has an element above 5.
-abbrev pub notTaken : ℕ
-notTaken = 8
+abbrev pub elementNotTaken : ℕ
+elementNotTaken = 8
 
 -- A value breaks its form.
 abbrev pub formBroken : ℕ
 formBroken = 9
 
 -- Action and event, or its absence, are not a pair of the matrix.
-abbrev pub notPair : ℕ
-notPair = 10
+abbrev pub notAPair : ℕ
+notAPair = 10
 
 -- A conditional element is missing.
-abbrev pub dueMissing : ℕ
-dueMissing = 11
+abbrev pub conditionalMissing : ℕ
+conditionalMissing = 11
 
 -- The price of a package with notation 3 has more than 11 digits, or more than 10 after the point.
-abbrev pub priceLong : ℕ
-priceLong = 12
+abbrev pub priceTooLong : ℕ
+priceTooLong = 12
 
 -- In a full message expiration is before effective, settlement before expiration, or reporting before execution.
-abbrev pub orderWrong : ℕ
-orderWrong = 13
+abbrev pub datesDisordered : ℕ
+datesDisordered = 13

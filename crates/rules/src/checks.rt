@@ -7,18 +7,18 @@ ghost use Rattle.message.specs.Values.{entries, isThere};
 ghost use Rattle.message.specs.Reading.{Laid, Reached};
 ghost use Rattle.elements.specs.Conditions.{factsOf};
 ghost use Rattle.rules.specs.Findings.{lowest};
-ghost use Rattle.rules.specs.Rules.{answerOf, atFault, FactsFor, longPrice, priceTooLong, elementBefore, outOfOrder};
+ghost use Rattle.rules.specs.Rules.{answerOf, atFault, FactsFor, longPrice, hasLongPrice, elementBefore, outOfOrder};
 use actions::Action;
 use actions::Checked;
 use elements::EFFECTIVE_DATE;
-use elements::EXECUTION_TIME;
+use elements::EXECUTION_TIMESTAMP;
 use elements::EXPIRATION_DATE;
 use elements::Facts;
 use elements::LAST_CODE;
 use elements::NO_FACTS;
 use elements::PACKAGE_PRICE;
 use elements::PRICE_NOTATION;
-use elements::REPORTING_TIME;
+use elements::REPORTING_TIMESTAMP;
 use elements::SETTLEMENT_DATE;
 use message::element;
 use message::entries_of;
@@ -132,9 +132,9 @@ fn is_long_price(v: &[u8]) -> bool
 }
 
 // Whether the price of a package with notation 3 is too long.
-pub fn is_price_too_long(m: &[u8], facts: Facts) -> bool
+pub fn has_long_price(m: &[u8], facts: Facts) -> bool
     requires { ⌜ facts ≡ factsOf (now m) ⌝ }
-    ensures { λ r. ⌜ r ≡ priceTooLong (now (m .entry)) ⌝ }
+    ensures { λ r. ⌜ r ≡ hasLongPrice (now (m .entry)) ⌝ }
 {
     if !facts.packaged {
         return false;
@@ -165,5 +165,5 @@ pub fn is_out_of_order(m: &[u8], action: Action) -> bool
     if is_element_before(m, SETTLEMENT_DATE, EXPIRATION_DATE) {
         return true;
     }
-    is_element_before(m, REPORTING_TIME, EXECUTION_TIME)
+    is_element_before(m, REPORTING_TIMESTAMP, EXECUTION_TIMESTAMP)
 }

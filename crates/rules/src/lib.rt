@@ -8,27 +8,27 @@ ghost use mathlib.Core.Path.{_≡_};
 ghost use Rattle.message.specs.Reading.{Laid};
 ghost use Rattle.elements.specs.Conditions.{factsOf};
 ghost use Rattle.actions.specs.declared.Checked.the-variants.{Value};
-ghost use Rattle.rules.specs.Verdicts.{noAction, neededMissing, notTaken, formBroken, notPair, dueMissing, priceLong, orderWrong};
+ghost use Rattle.rules.specs.Verdicts.{actionWrong, elementMissing, elementNotTaken, formBroken, notAPair, conditionalMissing, priceTooLong, datesDisordered};
 ghost use Rattle.rules.specs.Rules.{actionIn, verdict, judged, judgedFrom, judgedBy, verdictOf};
-use actions::ACTION_CODE;
+use actions::ACTION_TYPE;
 use actions::Action;
 use actions::Checked;
 use checks::Check;
+use checks::has_long_price;
 use checks::is_out_of_order;
-use checks::is_price_too_long;
 use checks::lowest_fault;
 use checks::lowest_not_taken;
 use elements::EVENT_TYPE;
 use elements::Facts;
 use elements::NO_FACTS;
 use message::element;
-use verdicts::DUE_MISSING;
-use verdicts::NEEDED_MISSING;
-use verdicts::NO_ACTION;
-use verdicts::NOT_PAIR;
-use verdicts::NOT_TAKEN;
-use verdicts::ORDER_WRONG;
-use verdicts::PRICE_LONG;
+use verdicts::ACTION_WRONG;
+use verdicts::CONDITIONAL_MISSING;
+use verdicts::DATES_DISORDERED;
+use verdicts::ELEMENT_MISSING;
+use verdicts::ELEMENT_NOT_TAKEN;
+use verdicts::NOT_A_PAIR;
+use verdicts::PRICE_TOO_LONG;
 
 // A refusal, with verdict and element, or the action of a message that no rule refuses.
 pub enum Judged {
@@ -62,11 +62,11 @@ pub fn judge(m: &[u8], longest: usize) -> Judged
 // 6
 fn judge_action(m: &[u8]) -> Judged
     requires { ⌜ Laid (now m) ⌝ }
-    ensures { λ r. ⌜ r ≡ judgedFrom noAction (actionIn (now (m .entry))) (now (m .entry)) ⌝ }
+    ensures { λ r. ⌜ r ≡ judgedFrom actionWrong (actionIn (now (m .entry))) (now (m .entry)) ⌝ }
 {
-    let read = actions::read_action(element(m, ACTION_CODE));
+    let read = actions::read_action(element(m, ACTION_TYPE));
     let Checked::Value(action) = read else {
-        return judged_by(NO_ACTION, read);
+        return judged_by(ACTION_WRONG, read);
     };
     judge_needed(m, action)
 }
@@ -74,11 +74,11 @@ fn judge_action(m: &[u8]) -> Judged
 // 7
 fn judge_needed(m: &[u8], action: Action) -> Judged
     requires { ⌜ Laid (now m) ⌝ }
-    ensures { λ r. ⌜ r ≡ judgedFrom neededMissing (Value action) (now (m .entry)) ⌝ }
+    ensures { λ r. ⌜ r ≡ judgedFrom elementMissing (Value action) (now (m .entry)) ⌝ }
 {
     let needed = lowest_fault(m, NO_FACTS, action, Check::Needed);
     let Checked::Value(action) = needed else {
-        return judged_by(NEEDED_MISSING, needed);
+        return judged_by(ELEMENT_MISSING, needed);
     };
     judge_taken(m, action)
 }
@@ -86,11 +86,11 @@ fn judge_needed(m: &[u8], action: Action) -> Judged
 // 8
 fn judge_taken(m: &[u8], action: Action) -> Judged
     requires { ⌜ Laid (now m) ⌝ }
-    ensures { λ r. ⌜ r ≡ judgedFrom notTaken (Value action) (now (m .entry)) ⌝ }
+    ensures { λ r. ⌜ r ≡ judgedFrom elementNotTaken (Value action) (now (m .entry)) ⌝ }
 {
     let taken = lowest_not_taken(m, action);
     let Checked::Value(action) = taken else {
-        return judged_by(NOT_TAKEN, taken);
+        return judged_by(ELEMENT_NOT_TAKEN, taken);
     };
     judge_forms(m, action)
 }
@@ -110,10 +110,10 @@ fn judge_forms(m: &[u8], action: Action) -> Judged
 // 10
 fn judge_pair(m: &[u8], action: Action) -> Judged
     requires { ⌜ Laid (now m) ⌝ }
-    ensures { λ r. ⌜ r ≡ judgedFrom notPair (Value action) (now (m .entry)) ⌝ }
+    ensures { λ r. ⌜ r ≡ judgedFrom notAPair (Value action) (now (m .entry)) ⌝ }
 {
     if !actions::is_pair(action, element(m, EVENT_TYPE)) {
-        return Judged::Refused(NOT_PAIR, 0);
+        return Judged::Refused(NOT_A_PAIR, 0);
     }
     judge_due(m, action)
 }
@@ -121,12 +121,12 @@ fn judge_pair(m: &[u8], action: Action) -> Judged
 // 11
 fn judge_due(m: &[u8], action: Action) -> Judged
     requires { ⌜ Laid (now m) ⌝ }
-    ensures { λ r. ⌜ r ≡ judgedFrom dueMissing (Value action) (now (m .entry)) ⌝ }
+    ensures { λ r. ⌜ r ≡ judgedFrom conditionalMissing (Value action) (now (m .entry)) ⌝ }
 {
     let facts = elements::facts_of(m);
     let due = lowest_fault(m, facts, action, Check::Due);
     let Checked::Value(action) = due else {
-        return judged_by(DUE_MISSING, due);
+        return judged_by(CONDITIONAL_MISSING, due);
     };
     judge_price(m, facts, action)
 }
@@ -134,20 +134,20 @@ fn judge_due(m: &[u8], action: Action) -> Judged
 // 12
 fn judge_price(m: &[u8], facts: Facts, action: Action) -> Judged
     requires { ⌜ facts ≡ factsOf (now m) ⌝ }
-    ensures { λ r. ⌜ r ≡ judgedFrom priceLong (Value action) (now (m .entry)) ⌝ }
+    ensures { λ r. ⌜ r ≡ judgedFrom priceTooLong (Value action) (now (m .entry)) ⌝ }
 {
-    if is_price_too_long(m, facts) {
-        return Judged::Refused(PRICE_LONG, 0);
+    if has_long_price(m, facts) {
+        return Judged::Refused(PRICE_TOO_LONG, 0);
     }
     judge_order(m, action)
 }
 
 // 13
 fn judge_order(m: &[u8], action: Action) -> Judged
-    ensures { λ r. ⌜ r ≡ judgedFrom orderWrong (Value action) (now (m .entry)) ⌝ }
+    ensures { λ r. ⌜ r ≡ judgedFrom datesDisordered (Value action) (now (m .entry)) ⌝ }
 {
     if is_out_of_order(m, action) {
-        return Judged::Refused(ORDER_WRONG, 0);
+        return Judged::Refused(DATES_DISORDERED, 0);
     }
     Judged::Value(action)
 }

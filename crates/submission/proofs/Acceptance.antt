@@ -5,7 +5,7 @@ use mathlib.Core.Path.{_≡_, refl, sym, ap, _∙_}
 use native.Mathlib.Omega.{arith}
 use lib.ListN.{length}
 use lib.Dec.{eqb, leb, ltb, lit≤}
-use borrow.Author.Tests.{eqb-false, ne-eqb, leb-true, ltb-true}
+use borrow.Author.Tests.{eqb-false, ne-eqb, leb-true, ltb-true, ltb-false}
 use Rattle.octets.specs.Bytes.{Bytes}
 use Rattle.octets.specs.Choice.{both}
 use Rattle.octets.proofs.ChoiceLaws.{both-first, both-second, both-false, not-not}
@@ -23,10 +23,10 @@ use Rattle.elements.specs.Forms.{hasForm}
 use Rattle.elements.specs.Messages.{needs as is-needed}
 use Rattle.elements.specs.Table.{elementOf}
 use Rattle.rules.specs.declared.checks.Check.the-variants.{Needed, Formed}
-use Rattle.rules.specs.Verdicts.{layoutWrong, noAction, neededMissing, formBroken}
+use Rattle.rules.specs.Verdicts.{layoutWrong, actionWrong, elementMissing, formBroken}
 use Rattle.rules.specs.Findings.{passed, broken, firstBroken, findingOf, fromRule, AllPassed}
 use Rattle.rules.specs.Rules.{rulesFor, rulesOf, atFault}
-use Rattle.rules.proofs.FindingLaws.{not-broken, unused, distinct, all-passed, is-passed, passed-from, passed-front, lowest-passed}
+use Rattle.rules.proofs.FindingLaws.{not-broken, unused, distinct, all-passed, is-passed, none-broken, passed-from, passed-front, lowest-passed}
 use Rattle.ledger.specs.Layout.{utiSize, lineSize, identifierLimit}
 use Rattle.ledger.specs.Header.{rowsInUse, nextIdentifier, capacityIn, headerRight, RightHeader, headerOf}
 use Rattle.ledger.specs.Rows.{placeOf, isKnown, swapStatus, swapTime, swapIn}
@@ -46,21 +46,21 @@ module _ (limits : Limits) (lent : Lent) (m : Bytes) where
   numbers-differ (Value a) = refl
 
   -- a message that is accepted has an action, and passes every rule
-  pub record Accepting : Type 0 where
+  pub record Accepted : Type 0 where
     pub action : Action
     pub reads : actionIn m ≡ Value action
     pub passes : AllPassed (submissionRules limits (Value action) lent m)
 
-  pub accepting : verdictOn limits lent m .0 ≡ 0 → Accepting
+  pub as-accepted : verdictOn limits lent m .0 ≡ 0 → Accepted
   unfolding verdictOn submissionRules rulesFor findingOf
-  accepting v = by (actionIn m) refl
+  as-accepted v = by (actionIn m) refl
     where
       passing : (r : Checked) → actionIn m ≡ r → AllPassed (submissionRules limits r lent m)
       passing r e = all-passed (submissionRules limits r lent m) (numbers-differ r) (ap (λ r. firstBroken (submissionRules limits r lent m) .0) (sym e) ∙ v)
 
-      by : (r : Checked) → actionIn m ≡ r → Accepting
+      by : (r : Checked) → actionIn m ≡ r → Accepted
       by (Fault code) e =
-          let p : broken code ≡ passed = is-passed noAction (submissionRules limits (Fault code) lent m) (passing (Fault code) e) in
+          let p : broken code ≡ passed = is-passed actionWrong (submissionRules limits (Fault code) lent m) (passing (Fault code) e) in
           let z : _≡_ {A = ℕ} 0 1 = cc in
           absurd (omega arith)
       by (Value a) e = record { action = a; reads = e; passes = passing (Value a) e }
@@ -87,8 +87,8 @@ uti-long v e =
     let most : Bool = leb (length v) utiMost in
     leb-true (length v) utiMost (both-first most _ (both-second least (both most _) e))
 
--- the ledger and the message fit each other
-pub record Fits (largest : ℕ) (l m : Bytes) (a : Action) : Type 0 where
+-- the message's swap has a place in the ledger
+pub record HasPlace (largest : ℕ) (l m : Bytes) (a : Action) : Type 0 where
   pub header : RightHeader largest l
   pub uti : length (swapOf m) ≤ utiSize
   -- NEWT finds no row, any other action finds its swap's
@@ -97,7 +97,7 @@ pub record Fits (largest : ℕ) (l m : Bytes) (a : Action) : Type 0 where
   -- the row lies within the capacity
   pub place : placeFor a l m < capacityIn l
 
-module _ {limits : Limits} {lent : Lent} {m : Bytes} (c : Accepting limits lent m) where
+module _ {limits : Limits} {lent : Lent} {m : Bytes} (c : Accepted limits lent m) where
   abbrev l : Bytes
   l = lent .ledger
 
@@ -143,7 +143,7 @@ module _ {limits : Limits} {lent : Lent} {m : Bytes} (c : Accepting limits lent 
 
   there : isThere uti m ≡ true
   unfolding submissionRules rulesFor rulesOf swapRules findingOf is-needed elementOf
-  there = not-not _ (lowest-passed (atFault Needed a m) (rule-passed neededMissing) uti (lit≤ tt) (lit≤ tt))
+  there = not-not _ (lowest-passed (atFault Needed a m) (rule-passed elementMissing) uti (lit≤ tt) (lit≤ tt))
 
   formed : hasForm uti (swapOf m) ≡ true
   unfolding submissionRules rulesFor rulesOf swapRules findingOf
@@ -171,8 +171,8 @@ module _ {limits : Limits} {lent : Lent} {m : Bytes} (c : Accepting limits lent 
       rw e (omega (arith, eqb-false (rowsInUse l) (capacityIn l) differ))
   place-fits false e h = rw e (omega (arith, ltb-true (placeOf l (swapOf m)) (rowsInUse l) (step-known l (swapOf m) a status-test e)))
 
-  pub all-fit : Fits (limits .largest) l m a
-  all-fit =
+  pub has-place : HasPlace (limits .largest) l m a
+  has-place =
       let h : RightHeader (limits .largest) l = right-header (limits .largest) l header-test in
       record {
         header = h;
@@ -184,11 +184,19 @@ module _ {limits : Limits} {lent : Lent} {m : Bytes} (c : Accepting limits lent 
 
 -- ---- what a submission then is
 
-module _ (limits : Limits) (lent : Lent) (m : Bytes) where
-  pub is-accepted : (c : Accepting limits lent m) → verdictOn limits lent m .0 ≡ 0 → submitted limits lent m ≡ accepted (c .action) lent m
-  unfolding submitted
-  is-accepted c v = rw (c .reads, v)
+pub tape-room : {limits : Limits} {lent : Lent} {m : Bytes} → Accepted limits lent m → lineSize ≤ length (lent .buffers .tape)
+tape-room c = ltb-false _ _ (tape-test c)
 
+module _ {limits : Limits} {lent : Lent} {m : Bytes} where
+  pub verdict-0 : Accepted limits lent m → verdictOn limits lent m ≡ (0, 0)
+  unfolding verdictOn
+  verdict-0 c = ap (λ r. firstBroken (submissionRules limits r lent m)) (c .reads) ∙ none-broken (submissionRules limits (Value (c .action)) lent m) (c .passes)
+
+  pub accepted-answer : (c : Accepted limits lent m) → submitted limits lent m ≡ accepted (c .action) lent m
+  unfolding submitted
+  accepted-answer c = rw (c .reads, verdict-0 c)
+
+module _ (limits : Limits) (lent : Lent) (m : Bytes) where
   pub is-refused : (n : ℕ) → verdictOn limits lent m .0 ≡ suc n → submitted limits lent m ≡ refused (verdictOn limits lent m) lent
   unfolding submitted
   is-refused n v = by (actionIn m)

@@ -19,14 +19,15 @@ use Rattle.submission.specs.History.{Call, submit, messageOf, answerTo, 
 use Rattle.submission.specs.Demand3.{start}
 use Rattle.submission.specs.Published.{published}
 use Rattle.submission.specs.Counting.{Identifier-with-line, Identifier-counts, Kept-by-calls, Quiet-call}
-use Rattle.submission.proofs.Turn.{by-turn}
-use Rattle.submission.proofs.Told.{Holds, kept-holding}
-use Rattle.submission.proofs.Opened.{start-holds}
+use Rattle.submission.proofs.Acceptance.{has-place}
+use Rattle.submission.proofs.Outcome.{by-outcome}
+use Rattle.submission.proofs.PublishedTape.{LedgerAgrees, kept-agreeing}
+use Rattle.submission.proofs.Opened.{start-agrees}
 
 pub kept-by-calls : Kept-by-calls
 unfolding ledgerAfterAll
-kept-by-calls limits holds keep l [] h = h
-kept-by-calls limits holds keep l (c ∷ cs) h = kept-by-calls limits holds keep (ledgerAfter limits l c) cs (keep l c h)
+kept-by-calls limits P keep l [] h = h
+kept-by-calls limits P keep l (c ∷ cs) h = kept-by-calls limits P keep (ledgerAfter limits l c) cs (keep l c h)
 
 -- ---- the identifier of a call
 
@@ -40,8 +41,8 @@ unfolding publishes
 given limits l (submit m b) =
     let lent : Lent = record { ledger = l; buffers = b } in
     record {
-      is = by-turn limits lent m (λ s. s .identifier ≡ choose (both (eqb (s .verdict) 0) (hasAction writesLine m)) (nextIdentifier l) 0) (λ c. rw (c .reads)) (λ v z. rw z);
-      some = by-turn limits lent m (λ s. both (eqb (s .verdict) 0) (hasAction writesLine m) ≡ true → 1 ≤ nextIdentifier l) (λ c p. c .fitting .header .positive) (λ v z p. absurd (false≢true (sym z ∙ both-first _ _ p)));
+      is = by-outcome limits lent m (λ s. s .identifier ≡ choose (both (eqb (s .verdict) 0) (hasAction writesLine m)) (nextIdentifier l) 0) (λ c. rw (c .reads)) (λ v z. rw z);
+      some = by-outcome limits lent m (λ s. both (eqb (s .verdict) 0) (hasAction writesLine m) ≡ true → 1 ≤ nextIdentifier l) (λ c p. has-place c .header .positive) (λ v z p. absurd (false≢true (sym z ∙ both-first _ _ p)));
     }
 
 pub identifier-with-line : Identifier-with-line
@@ -65,14 +66,14 @@ identifier-with-line limits l c = (λ e. by (publishes limits l c) refl e, other
 -- a ledger that holds what so many published messages say
 record Counted (caps : Caps) (l : Bytes) (n : ℕ) : Type 0 where
   earlier : List Bytes
-  holds : Holds caps l earlier
+  holds : LedgerAgrees caps l earlier
   count : length earlier ≡ n
 
-counted : (limits : Limits) → limits .largest < 256 ^ u32 → (caps : Caps) (cs : List Call) (l : Bytes) (earlier : List Bytes) → Holds caps l earlier → Counted caps (ledgerAfterAll limits l cs) (length (published limits l cs) + length earlier)
+counted : (limits : Limits) → limits .largest < 256 ^ u32 → (caps : Caps) (cs : List Call) (l : Bytes) (earlier : List Bytes) → LedgerAgrees caps l earlier → Counted caps (ledgerAfterAll limits l cs) (length (published limits l cs) + length earlier)
 unfolding ledgerAfterAll published
 counted limits small caps [] l earlier h = record { earlier = earlier; holds = h; count = omega arith }
 counted limits small caps (c ∷ cs) l earlier h =
-    let rest = counted limits small caps cs (ledgerAfter limits l c) _ (kept-holding limits small c h) in
+    let rest = counted limits small caps cs (ledgerAfter limits l c) _ (kept-agreeing limits small c h) in
     record { earlier = rest .earlier; holds = rest .holds; count = rest .count ∙ one (publishes limits l c) (published limits (ledgerAfter limits l c) cs) }
   where
     one : (b : Bool) (ms : List Bytes) → length ms + length (choose b (messageOf c ∷ earlier) earlier) ≡ length (choose b (messageOf c ∷ ms) ms) + length earlier
@@ -80,8 +81,8 @@ counted limits small caps (c ∷ cs) l earlier h =
     one false ms = refl
 
 pub identifier-counts : Identifier-counts
-identifier-counts limits caps l before c small v =
-    let k = counted limits small caps before (start limits caps l) [] (start-holds limits caps l v) in
+identifier-counts limits small caps l before c v =
+    let k = counted limits small caps before (start limits caps l) [] (start-agrees limits caps l v) in
     let lines : length (k .earlier) ≡ length (published limits (start limits caps l) before) = k .count ∙ omega arith in
     given limits (ledgerAfterAll limits (start limits caps l) before) c .is ∙ rw (k .holds .next-is, lines)
 

@@ -14,12 +14,12 @@ use Rattle.message.specs.Values.{value}
 use Rattle.actions.specs.declared.Action.{Action}
 use Rattle.actions.specs.declared.Checked.{Checked}
 use Rattle.actions.specs.declared.Checked.the-variants.{Fault, Value}
-use Rattle.actions.specs.Actions.{actionCode}
+use Rattle.actions.specs.Actions.{actionType}
 use Rattle.elements.specs.Codes.{uti}
 use Rattle.elements.specs.Forms.{hasForm}
 use Rattle.rules.specs.declared.checks.Check.{Check}
 use Rattle.rules.specs.declared.checks.Check.the-variants.{Needed, Taken, Formed, Due}
-use Rattle.rules.specs.Verdicts.{noAction, formBroken}
+use Rattle.rules.specs.Verdicts.{actionWrong, formBroken}
 use Rattle.rules.specs.Findings.{passed, broken, lowest, Rule, test, naming, firstBroken, findingOf, isOneOf}
 use Rattle.rules.specs.Rules.{finding, atFault, rulesFor, rulesOf, numberOf}
 use Rattle.rules.proofs.FindingLaws.{unused, not-verdict, numbered, has-number, namedBy, names-none, broken-first, lowest-broken}
@@ -33,8 +33,8 @@ use Rattle.submission.specs.Lent.{Lent}
 use Rattle.submission.specs.Submission.{actionIn, hasWrongRow, swapRules, submissionRules, rulesOn, verdictOn, Submitted, submitted}
 use Rattle.submission.specs.Status.{statusRules, answered, asked}
 use Rattle.submission.specs.Demand1.{NamesLowest, Names, Refusal, Submission-answers, Opening-answers, Question, Question-answers}
-use Rattle.submission.proofs.Acceptance.{numbers-differ}
-use Rattle.submission.proofs.Turn.{refuses, accepts, verdict-is}
+use Rattle.submission.proofs.Acceptance.{numbers-differ, accepted-answer}
+use Rattle.submission.proofs.Outcome.{when-refused, when-accepted, verdict-is}
 
 module _ (limits : Limits) (lent : Lent) (m : Bytes) where
   -- the first rule broken, and what the submission answers
@@ -90,28 +90,28 @@ module _ (limits : Limits) (lent : Lent) (m : Bytes) where
       let is : firstBroken (rules (Value a)) ≡ (numberOf c, found .1) = ap (λ r. firstBroken (rules r)) (sym e) ∙ ap (λ n. (n, found .1)) v in
       record { action = a; reads = e; lowest = lowest-broken (atFault c a m) (found .1) (check-broken a c (found .1) is) }
 
-  action-broken : (r : Checked) (e : ℕ) → firstBroken (rules r) ≡ (noAction, e) → finding r ≡ broken e
+  action-broken : (r : Checked) (e : ℕ) → firstBroken (rules r) ≡ (actionWrong, e) → finding r ≡ broken e
   unfolding submissionRules rulesFor rulesOf swapRules findingOf
-  action-broken (Fault code) e v = broken-first (rules (Fault code)) noAction e (numbers-differ limits lent m (Fault code)) (lit< tt) v .0
-  action-broken (Value a) e v = broken-first (rules (Value a)) noAction e (numbers-differ limits lent m (Value a)) (lit< tt) v .0
+  action-broken (Fault code) e v = broken-first (rules (Fault code)) actionWrong e (numbers-differ limits lent m (Fault code)) (lit< tt) v .0
+  action-broken (Value a) e v = broken-first (rules (Value a)) actionWrong e (numbers-differ limits lent m (Value a)) (lit< tt) v .0
 
-  names-action : found .0 ≡ noAction → found .1 ≡ actionCode
+  names-action : found .0 ≡ actionWrong → found .1 ≡ actionType
   unfolding verdictOn
-  names-action v = action-at-fault (value actionCode m) (found .1) (action-broken (actionIn m) (found .1) (ap (λ n. (n, found .1)) v))
+  names-action v = action-at-fault (value actionType m) (found .1) (action-broken (actionIn m) (found .1) (ap (λ n. (n, found .1)) v))
 
   -- ---- what the submission answers
 
   same-element : (n : ℕ) → answer .verdict ≡ n → answer .element ≡ found .1
   unfolding isOneOf
-  same-element zero v = ap (λ s. s .element) (accepts limits lent m v .answer) ∙ sym (no-element (ap (isOneOf namingNumbers) (sym (verdict-is limits lent m) ∙ v)))
-  same-element (suc n) v = ap (λ s. s .element) (refuses limits lent m n v)
+  same-element zero v = ap (λ s. s .element) (accepted-answer (when-accepted limits lent m v)) ∙ sym (no-element (ap (isOneOf namingNumbers) (sym (verdict-is limits lent m) ∙ v)))
+  same-element (suc n) v = ap (λ s. s .element) (when-refused limits lent m n v)
 
   pub element-is : answer .element ≡ found .1
   element-is = same-element (answer .verdict) refl
 
-  names-element : (v : ℕ) → (v ≡ noAction → ⊥) → ((check : Check) → v ≡ numberOf check → ⊥) → isOneOf namingNumbers v ≡ false
+  names-element : (v : ℕ) → (v ≡ actionWrong → ⊥) → ((check : Check) → v ≡ numberOf check → ⊥) → isOneOf namingNumbers v ≡ false
   unfolding isOneOf
-  names-element v a c = rw (ne-eqb noAction v (λ e. a (sym e)), other Needed, other Taken, other Formed, other Due)
+  names-element v a c = rw (ne-eqb actionWrong v (λ e. a (sym e)), other Needed, other Taken, other Formed, other Due)
     where
       other : (check : Check) → eqb (numberOf check) v ≡ false
       other check = ne-eqb (numberOf check) v (λ e. c check (sym e))
@@ -131,8 +131,8 @@ module _ (limits : Limits) (lent : Lent) (m : Bytes) where
       let same : answer .verdict ≡ found .0 = verdict-is limits lent m in
       record {
         number = rw same (some-number (λ e. z (same ∙ e)));
-        identifier = ap (λ s. s .identifier) (refuses limits lent m n v);
-        unchanged = ap (λ s. s .lent) (refuses limits lent m n v);
+        identifier = ap (λ s. s .identifier) (when-refused limits lent m n v);
+        unchanged = ap (λ s. s .lent) (when-refused limits lent m n v);
       }
 
 pub submission-answers : Submission-answers

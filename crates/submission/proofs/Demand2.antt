@@ -46,11 +46,11 @@ use Rattle.submission.specs.Opening.{Limits, openingRules, openingVerdic
 use Rattle.submission.specs.Lent.{Lent}
 use Rattle.submission.specs.Status.{statusRules, asked}
 use Rattle.submission.specs.Submission.{submitted, swapOf, actionIn, rowRight, hasWrongRow, isNotAdmitted, hasOtherTime, findsFull, findsSpent, swapRules, rulesIn, submissionRules, rulesOn, verdictOn, maskedTerms, termsFor, placeFor, rowFor, ledgerFor, lineFor, tapeFor}
-use Rattle.submission.specs.Demand2.{Verdict-exactly, Checking-order, RightRow, Sound, Accepted-exactly, Outside, LedgerWritten, TapeWritten, Acceptance-writes, OpeningExactly, Opening-exactly, Opening-writes, QuestionExactly, Question-exactly}
-use Rattle.submission.proofs.Acceptance.{numbers-differ, Accepting, accepting, step-known, Fits, row-right as passed-row, status-test, time-test, message-passes, room-test, spent-test}
+use Rattle.submission.specs.Demand2.{Verdict-exactly, Checking-order, RightRow, RulesAccept, Accepted-exactly, Outside, LedgerWritten, TapeWritten, Acceptance-writes, OpeningExactly, Opening-exactly, Opening-passes, Opening-writes, QuestionExactly, Question-exactly}
+use Rattle.submission.proofs.Acceptance.{numbers-differ, Accepted, accepted-answer, step-known, HasPlace, has-place, tape-room, row-right as passed-row, status-test, time-test, message-passes, room-test, spent-test}
 use Rattle.submission.proofs.Lookup.{row-whole, length-shown, length-after, ledger-length, new-place, rows-raised, next-raised, row-written}
-use Rattle.submission.proofs.Turn.{Accepts, accepts, verdict-is}
-use Rattle.submission.proofs.Opened.{long-enough, start-is}
+use Rattle.submission.proofs.Outcome.{when-accepted, verdict-is}
+use Rattle.submission.proofs.Opened.{long-enough, start-is, start-right}
 use Rattle.submission.proofs.Demand1.{element-is}
 
 -- ---- the verdict
@@ -111,17 +111,16 @@ module _ (limits : Limits) (lent : Lent) (m : Bytes) where
   abbrev l : Bytes
   l = lent .ledger
 
-  sound : submitted limits lent m .verdict ≡ 0 → Sound limits lent m
+  rules-accept : submitted limits lent m .verdict ≡ 0 → RulesAccept limits lent m
   unfolding hasOtherTime verdict
-  sound v =
-      let c : Accepting limits lent m = accepting limits lent m (sym (verdict-is limits lent m) ∙ v) in
-      let s : Accepts limits lent m = accepts limits lent m v in
+  rules-accept v =
+      let c : Accepted limits lent m = when-accepted limits lent m v in
       let a : Action = c .action in
       record {
         action = a;
         reads = c .reads;
-        header = s .fitting .header;
-        tape = s .tape;
+        header = has-place c .header;
+        tape = tape-room c;
         message = rw (c .reads) (none-broken (rulesFor (Value a) (limits .longest) m) (message-passes c));
         row = λ k. right-row (nextIdentifier l) l (swapOf m) k (passed-row c k);
         step = eqb-false _ _ (status-test c);
@@ -130,7 +129,7 @@ module _ (limits : Limits) (lent : Lent) (m : Bytes) where
         spare = λ k. eqb-false _ _ (both-false (writesLine a) _ (spent-test c) k);
       }
 
-  module _ (s : Sound limits lent m) where
+  module _ (s : RulesAccept limits lent m) where
     right-found : hasWrongRow (nextIdentifier l) (swapIn l (swapOf m)) ≡ false
     unfolding hasWrongRow
     right-found = not-where (isKnown l (swapOf m)) _ (λ k. ap not (row-right (nextIdentifier l) l (swapOf m) k (s .row k)))
@@ -172,15 +171,15 @@ module _ (limits : Limits) (lent : Lent) (m : Bytes) where
         ∙ passed-then (rulesFor (Value (s .action)) (limits .longest) m) (rulesIn (s .action) l m) message-right
         ∙ swap-passed
 
-    is-accepted : submitted limits lent m .verdict ≡ 0
-    is-accepted = verdict-is limits lent m ∙ ap (λ v. v .0) all-passed-on
+    submission-accepts : submitted limits lent m .verdict ≡ 0
+    submission-accepts = verdict-is limits lent m ∙ ap (λ v. v .0) all-passed-on
 
 pub accepted-exactly : Accepted-exactly
-accepted-exactly limits lent m = (sound limits lent m, is-accepted limits lent m)
+accepted-exactly limits lent m = (rules-accept limits lent m, submission-accepts limits lent m)
 
 -- ---- what an accepted message writes
 
-module _ {largest : ℕ} {l m : Bytes} {a : Action} (f : Fits largest l m a) (small : largest < 256 ^ u32) where
+module _ {largest : ℕ} {l m : Bytes} {a : Action} (f : HasPlace largest l m a) (small : largest < 256 ^ u32) where
   abbrev old : Bytes
   old = rowAt l (placeFor a l m)
 
@@ -259,14 +258,14 @@ module _ (a : Action) (l t m : Bytes) (room : lineSize ≤ length t) where
       by false e = record { line = λ w. absurd (false≢true (sym e ∙ w)); later = refl; long = refl; none = λ w. refl }
 
 pub acceptance-writes : Acceptance-writes
-acceptance-writes limits lent m small v =
-    let c : Accepts limits lent m = accepts limits lent m v in
+acceptance-writes limits small lent m v =
+    let c : Accepted limits lent m = when-accepted limits lent m v in
     record {
       action = c .action;
       reads = c .reads;
-      ledger = rw (ap (λ s. s .lent .ledger) (c .answer)) (ledger-written (c .fitting) small);
-      tape = rw (ap (λ s. s .lent .buffers .tape) (c .answer)) (tape-written (c .action) (lent .ledger) (lent .buffers .tape) m (c .tape));
-      identifier = ap (λ s. s .identifier) (c .answer);
+      ledger = rw (ap (λ s. s .lent .ledger) (accepted-answer c)) (ledger-written (has-place c) small);
+      tape = rw (ap (λ s. s .lent .buffers .tape) (accepted-answer c)) (tape-written (c .action) (lent .ledger) (lent .buffers .tape) m (tape-room c));
+      identifier = ap (λ s. s .identifier) (accepted-answer c);
     }
 
 -- ---- opening
@@ -297,6 +296,9 @@ opening-exactly limits caps l = by (ltb (length l) shortestLedger) refl (areCaps
           cap = (λ z. absurd (omega arith), λ p. absurd (false≢true (sym (p .1) ∙ f)));
           accepted = (λ z. (long, f), λ p. refl);
         }
+
+pub opening-passes : Opening-passes
+opening-passes limits caps l small v = start-right limits caps l v small
 
 pub opening-writes : Opening-writes
 opening-writes limits caps l v =

@@ -1,7 +1,7 @@
 pub mod Acceptance
 pub mod Lookup
-pub mod Turn
-pub mod Told
+pub mod Outcome
+pub mod PublishedTape
 pub mod Pairs
 pub mod Opened
 pub mod Demand1

@@ -33,7 +33,7 @@ use Rattle.ledger.proofs.RowAfterLaws.{length-row-after}
 use Rattle.ledger.proofs.RowFields.{new-holds, after-holds}
 use Rattle.ledger.proofs.ReadBack.{row-length, row-rows, row-next, row-caps, row-same, row-other, raised-caps, raised-row, raised-length, raised-rows, raised-next}
 use Rattle.submission.specs.Submission.{swapOf, capOn, maskedTerms, termsFor, placeFor, rowFor, ledgerFor}
-use Rattle.submission.proofs.Acceptance.{Fits}
+use Rattle.submission.proofs.Acceptance.{HasPlace}
 
 -- ---- a row holds one UTI
 
@@ -64,7 +64,7 @@ length-stored r size = length-part r termsAt termsSize (omega arith)
 
 -- ---- the ledger after
 
-module _ {largest : ℕ} {l m : Bytes} {a : Action} (f : Fits largest l m a) (small : largest < 256 ^ u32) where
+module _ {largest : ℕ} {l m : Bytes} {a : Action} (f : HasPlace largest l m a) (small : largest < 256 ^ u32) where
   room : (j : ℕ) → j < capacityIn l → rowStart (suc j) ≤ length l
   room j h = omega (arith, rows-fit largest l (f .header))
 

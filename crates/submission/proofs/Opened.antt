@@ -19,7 +19,7 @@ use Rattle.ledger.proofs.NewHeader as header
 use Rattle.submission.specs.Verdicts.{ledgerShort, capWrong}
 use Rattle.submission.specs.Opening.{Limits, openingRules, openingVerdict, opened}
 use Rattle.submission.specs.Demand3.{start}
-use Rattle.submission.proofs.Told.{Holds}
+use Rattle.submission.proofs.PublishedTape.{LedgerAgrees}
 
 opening-differ : (caps : Caps) (l : Bytes) → distinct (openingRules caps l) ≡ true
 unfolding openingRules unused distinct
@@ -64,8 +64,8 @@ module _ (limits : Limits) (caps : Caps) (l : Bytes) (v : opened limits caps l .
   nothing-known u e = omega (arith, ltb-true (placeOf (start limits caps l) u) (rowsInUse (start limits caps l)) e, start-rows)
 
   -- it holds what no message has said
-  pub start-holds : Holds caps (start limits caps l) []
-  start-holds =
+  pub start-agrees : LedgerAgrees caps (start limits caps l) []
+  start-agrees =
       record {
         caps-are = start-caps;
         next-is = start-next;

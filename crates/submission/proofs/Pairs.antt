@@ -21,12 +21,12 @@ use Rattle.ledger.specs.Line.{line}
 use Rattle.submission.specs.Opening.{Limits}
 use Rattle.submission.specs.Submission.{swapOf, actionIn, maskedTerms}
 use Rattle.submission.specs.History.{Call, messageOf, answerTo, ledgerAfter, hasAction, ofKind, publishes, Judgement, judgements}
-use Rattle.submission.specs.Demand3.{messageAt, verdictAt, Accepted, maskedTermsAt, SameShown, Alike}
-use Rattle.submission.specs.Published.{published, lastIdentifier, lastMasked, toldTerms, lineBy, toldLine, told}
+use Rattle.submission.specs.Demand3.{messageAt, verdictAt, AcceptedAt, maskedTermsAt, SameShown, Alike}
+use Rattle.submission.specs.Published.{published, lastIdentifier, lastMasked, publishedTerms, lineBy, publishedLine, publishedTape}
 
 -- ---- two messages that show the same
 
-pub record Twins (caps : Caps) (m₁ m₂ : Bytes) : Type 0 where
+pub record Partners (caps : Caps) (m₁ m₂ : Bytes) : Type 0 where
   pub shown : SameShown m₁ m₂
   pub terms : hasAction isFull m₁ ≡ true → maskedTerms caps m₁ ≡ maskedTerms caps m₂
 
@@ -34,19 +34,19 @@ same-actions : (caps : Caps) (m₁ m₂ : Bytes) → SameShown m₁ m₂ → act
 same-actions caps m₁ m₂ s = ap actionOf (s .0)
 
 -- the premises, with the masked terms of full messages alone: the rest of them follows
-pub record Near (caps : Caps) (js ks : List Judgement) : Type 0 where
+pub record AllPartners (caps : Caps) (js ks : List Judgement) : Type 0 where
   pub lengths : length js ≡ length ks
   pub verdicts : (i : ℕ) → i < length js → verdictAt js i ≡ verdictAt ks i
-  pub twins : (i : ℕ) → Accepted js i → Twins caps (messageAt js i) (messageAt ks i)
-  pub swaps : (i j : ℕ) → Accepted js i → Accepted js j → (swapOf (messageAt js i) ≡ swapOf (messageAt js j)) ↔ (swapOf (messageAt ks i) ≡ swapOf (messageAt ks j))
+  pub partners : (i : ℕ) → AcceptedAt js i → Partners caps (messageAt js i) (messageAt ks i)
+  pub swaps : (i j : ℕ) → AcceptedAt js i → AcceptedAt js j → (swapOf (messageAt js i) ≡ swapOf (messageAt js j)) ↔ (swapOf (messageAt ks i) ≡ swapOf (messageAt ks j))
 
-pub near : (caps : Caps) (js ks : List Judgement) → Alike caps js ks → Near caps js ks
+pub all-partners : (caps : Caps) (js ks : List Judgement) → Alike caps js ks → AllPartners caps js ks
 unfolding maskedTermsAt
-near caps js ks a =
+all-partners caps js ks a =
     record {
       lengths = a .lengths;
       verdicts = a .verdicts;
-      twins = λ i z.
+      partners = λ i z.
           record {
             shown = a .shown i z;
             terms = λ f.
@@ -57,12 +57,12 @@ near caps js ks a =
       swaps = a .swaps;
     }
 
-near-rest : (caps : Caps) (j k : Judgement) (js ks : List Judgement) → Near caps (j ∷ js) (k ∷ ks) → Near caps js ks
-near-rest caps j k js ks n =
+partners-rest : (caps : Caps) (j k : Judgement) (js ks : List Judgement) → AllPartners caps (j ∷ js) (k ∷ ks) → AllPartners caps js ks
+partners-rest caps j k js ks n =
     record {
       lengths = omega (arith, n .lengths);
       verdicts = λ i h. n .verdicts (suc i) (omega arith);
-      twins = λ i z. n .twins (suc i) (omega (arith, z .0), z .1);
+      partners = λ i z. n .partners (suc i) (omega (arith, z .0), z .1);
       swaps = λ i e z y. n .swaps (suc i) (suc e) (omega (arith, z .0), z .1) (omega (arith, y .0), y .1);
     }
 
@@ -72,7 +72,7 @@ Prior : Caps → List Bytes → List Bytes → Type 0
 Prior caps [] [] = Unit {0}
 Prior caps [] (f ∷ fs) = ⊥
 Prior caps (e ∷ es) [] = ⊥
-Prior caps (e ∷ es) (f ∷ fs) = Twins caps e f × Prior caps es fs
+Prior caps (e ∷ es) (f ∷ fs) = Partners caps e f × Prior caps es fs
 
 -- which of them name a swap
 abbrev naming : Bytes → List Bytes → List Bool
@@ -107,13 +107,13 @@ unfolding line
 line-shown (Fault code) i p m n terms s = refl
 line-shown (Value a) i p m n terms s = rw (s .0, s .1, s .2)
 
-same-terms : (caps : Caps) (m n : Bytes) (es fs : List Bytes) → Twins caps m n → Same caps (swapOf m) (swapOf n) es fs → toldTerms caps es m ≡ toldTerms caps fs n
-unfolding toldTerms
+same-terms : (caps : Caps) (m n : Bytes) (es fs : List Bytes) → Partners caps m n → Same caps (swapOf m) (swapOf n) es fs → publishedTerms caps es m ≡ publishedTerms caps fs n
+unfolding publishedTerms
 same-terms caps m n es fs t i =
     choose-same (hasAction isFull m) (hasAction isFull n) _ _ _ _ (ap (ofKind isFull) (same-actions caps m n (t .shown))) (t .terms) (i .terms)
 
-same-line : (caps : Caps) (m n : Bytes) (es fs : List Bytes) → Twins caps m n → Same caps (swapOf m) (swapOf n) es fs → toldLine caps es m ≡ toldLine caps fs n
-unfolding toldLine
+same-line : (caps : Caps) (m n : Bytes) (es fs : List Bytes) → Partners caps m n → Same caps (swapOf m) (swapOf n) es fs → publishedLine caps es m ≡ publishedLine caps fs n
+unfolding publishedLine
 same-line caps m n es fs t i =
     line-shown (actionIn m) _ _ m n _ (t .shown)
     ∙ rw (same-actions caps m n (t .shown), same-terms caps m n es fs t i, i .lines, i .long)
@@ -121,7 +121,7 @@ same-line caps m n es fs t i =
 -- ---- the histories from here on, with what was published before
 
 abbrev Named : List Judgement → List Judgement → List Bytes → List Bytes → Type 0
-Named js ks es fs = (i : ℕ) → Accepted js i → naming (swapOf (messageAt js i)) es ≡ naming (swapOf (messageAt ks i)) fs
+Named js ks es fs = (i : ℕ) → AcceptedAt js i → naming (swapOf (messageAt js i)) es ≡ naming (swapOf (messageAt ks i)) fs
 
 name-one : (u v m n : Bytes) → (m ≡ u) ↔ (n ≡ v) → sameBytes m u ≡ sameBytes n v
 name-one u v m n e =
@@ -136,18 +136,18 @@ same-publishes v w m n e s = rw (← e) (by (eqb v 0) refl)
     by false g = refl
 
 module _ (caps : Caps) (limits : Limits) (c₁ c₂ : Call) (h₁ h₂ : List Call) (l₁ l₂ : Bytes) (es fs : List Bytes) (p : Prior caps es fs)
-    (q : Named (judgements limits l₁ (c₁ ∷ h₁)) (judgements limits l₂ (c₂ ∷ h₂)) es fs) (n : Near caps (judgements limits l₁ (c₁ ∷ h₁)) (judgements limits l₂ (c₂ ∷ h₂))) where
+    (q : Named (judgements limits l₁ (c₁ ∷ h₁)) (judgements limits l₂ (c₂ ∷ h₂)) es fs) (n : AllPartners caps (judgements limits l₁ (c₁ ∷ h₁)) (judgements limits l₂ (c₂ ∷ h₂))) where
   same-verdict : answerTo limits l₁ c₁ .verdict ≡ answerTo limits l₂ c₂ .verdict
   unfolding judgements
   same-verdict = n .verdicts 0 (omega arith)
 
-  twins : answerTo limits l₁ c₁ .verdict ≡ 0 → Twins caps (messageOf c₁) (messageOf c₂)
+  partners : answerTo limits l₁ c₁ .verdict ≡ 0 → Partners caps (messageOf c₁) (messageOf c₂)
   unfolding judgements
-  twins v = n .twins 0 (omega arith, v)
+  partners v = n .partners 0 (omega arith, v)
 
   publish-alike : publishes limits l₁ c₁ ≡ publishes limits l₂ c₂
   unfolding publishes
-  publish-alike = same-publishes _ _ (messageOf c₁) (messageOf c₂) same-verdict (λ v. twins v .shown)
+  publish-alike = same-publishes _ _ (messageOf c₁) (messageOf c₂) same-verdict (λ v. partners v .shown)
 
   accepted-first : publishes limits l₁ c₁ ≡ true → answerTo limits l₁ c₁ .verdict ≡ 0
   unfolding publishes
@@ -166,19 +166,19 @@ module _ (caps : Caps) (limits : Limits) (c₁ c₂ : Call) (h₁ h₂ : List Ca
   named-more v i z =
       ap₂ {C = List Bool} (λ (c : Bool) (bs : List Bool). c ∷ bs) (name-one _ _ (swapOf (messageOf c₁)) (swapOf (messageOf c₂)) (n .swaps 0 (suc i) (omega arith, v) (omega (arith, z .0), z .1))) (named-rest i z)
 
-  near-after : Near caps (judgements limits (ledgerAfter limits l₁ c₁) h₁) (judgements limits (ledgerAfter limits l₂ c₂) h₂)
+  partners-after : AllPartners caps (judgements limits (ledgerAfter limits l₁ c₁) h₁) (judgements limits (ledgerAfter limits l₂ c₂) h₂)
   unfolding judgements
-  near-after = near-rest caps _ _ _ _ n
+  partners-after = partners-rest caps _ _ _ _ n
 
   one-turn :
       ((es′ fs′ : List Bytes) → Prior caps es′ fs′ → Named (judgements limits (ledgerAfter limits l₁ c₁) h₁) (judgements limits (ledgerAfter limits l₂ c₂) h₂) es′ fs′
-      → told caps es′ (published limits (ledgerAfter limits l₁ c₁) h₁) ≡ told caps fs′ (published limits (ledgerAfter limits l₂ c₂) h₂))
-      → (b : Bool) → publishes limits l₁ c₁ ≡ b → told caps es (published limits l₁ (c₁ ∷ h₁)) ≡ told caps fs (published limits l₂ (c₂ ∷ h₂))
-  unfolding published told Prior
+      → publishedTape caps es′ (published limits (ledgerAfter limits l₁ c₁) h₁) ≡ publishedTape caps fs′ (published limits (ledgerAfter limits l₂ c₂) h₂))
+      → (b : Bool) → publishes limits l₁ c₁ ≡ b → publishedTape caps es (published limits l₁ (c₁ ∷ h₁)) ≡ publishedTape caps fs (published limits l₂ (c₂ ∷ h₂))
+  unfolding published publishedTape Prior
   one-turn rest true e =
       let v : answerTo limits l₁ c₁ .verdict ≡ 0 = accepted-first e in
       let e₂ : publishes limits l₂ c₂ ≡ true = sym publish-alike ∙ e in
-      let t : Twins caps (messageOf c₁) (messageOf c₂) = twins v in
+      let t : Partners caps (messageOf c₁) (messageOf c₂) = partners v in
       let own : naming (swapOf (messageOf c₁)) es ≡ naming (swapOf (messageOf c₂)) fs = named-own v in
       rw (e, e₂)
       (ap₂ {C = Bytes} (λ (a b : Bytes). a ++ b) (same-line caps (messageOf c₁) (messageOf c₂) es fs t (same-earlier caps (swapOf (messageOf c₁)) (swapOf (messageOf c₂)) es fs p own))
@@ -187,20 +187,20 @@ module _ (caps : Caps) (limits : Limits) (c₁ c₂ : Call) (h₁ h₂ : List Ca
       let e₂ : publishes limits l₂ c₂ ≡ false = sym publish-alike ∙ e in
       rw (e, e₂) (rest es fs p named-rest)
 
-both-told : (caps : Caps) (limits : Limits) (h₁ h₂ : List Call) (l₁ l₂ : Bytes) (es fs : List Bytes) → Prior caps es fs
-    → Named (judgements limits l₁ h₁) (judgements limits l₂ h₂) es fs → Near caps (judgements limits l₁ h₁) (judgements limits l₂ h₂)
-    → told caps es (published limits l₁ h₁) ≡ told caps fs (published limits l₂ h₂)
-unfolding judgements published told
-both-told caps limits [] [] l₁ l₂ es fs p q n = refl
-both-told caps limits [] (c₂ ∷ h₂) l₁ l₂ es fs p q n = absurd (omega (arith, n .lengths))
-both-told caps limits (c₁ ∷ h₁) [] l₁ l₂ es fs p q n = absurd (omega (arith, n .lengths))
-both-told caps limits (c₁ ∷ h₁) (c₂ ∷ h₂) l₁ l₂ es fs p q n =
+both-known : (caps : Caps) (limits : Limits) (h₁ h₂ : List Call) (l₁ l₂ : Bytes) (es fs : List Bytes) → Prior caps es fs
+    → Named (judgements limits l₁ h₁) (judgements limits l₂ h₂) es fs → AllPartners caps (judgements limits l₁ h₁) (judgements limits l₂ h₂)
+    → publishedTape caps es (published limits l₁ h₁) ≡ publishedTape caps fs (published limits l₂ h₂)
+unfolding judgements published publishedTape
+both-known caps limits [] [] l₁ l₂ es fs p q n = refl
+both-known caps limits [] (c₂ ∷ h₂) l₁ l₂ es fs p q n = absurd (omega (arith, n .lengths))
+both-known caps limits (c₁ ∷ h₁) [] l₁ l₂ es fs p q n = absurd (omega (arith, n .lengths))
+both-known caps limits (c₁ ∷ h₁) (c₂ ∷ h₂) l₁ l₂ es fs p q n =
     one-turn caps limits c₁ c₂ h₁ h₂ l₁ l₂ es fs p q n
-    (λ es′ fs′ p′ q′. both-told caps limits h₁ h₂ (ledgerAfter limits l₁ c₁) (ledgerAfter limits l₂ c₂) es′ fs′ p′ q′ (near-after caps limits c₁ c₂ h₁ h₂ l₁ l₂ es fs p q n))
+    (λ es′ fs′ p′ q′. both-known caps limits h₁ h₂ (ledgerAfter limits l₁ c₁) (ledgerAfter limits l₂ c₂) es′ fs′ p′ q′ (partners-after caps limits c₁ c₂ h₁ h₂ l₁ l₂ es fs p q n))
     (publishes limits l₁ c₁) refl
 
 -- two histories whose premises hold tell the same
-pub tell-same : (caps : Caps) (limits : Limits) (h₁ h₂ : List Call) (l₁ l₂ : Bytes) → Alike caps (judgements limits l₁ h₁) (judgements limits l₂ h₂)
-    → told caps [] (published limits l₁ h₁) ≡ told caps [] (published limits l₂ h₂)
+pub same-published : (caps : Caps) (limits : Limits) (h₁ h₂ : List Call) (l₁ l₂ : Bytes) → Alike caps (judgements limits l₁ h₁) (judgements limits l₂ h₂)
+    → publishedTape caps [] (published limits l₁ h₁) ≡ publishedTape caps [] (published limits l₂ h₂)
 unfolding Prior
-tell-same caps limits h₁ h₂ l₁ l₂ a = both-told caps limits h₁ h₂ l₁ l₂ [] [] tt (λ i z. refl) (near caps _ _ a)
+same-published caps limits h₁ h₂ l₁ l₂ a = both-known caps limits h₁ h₂ l₁ l₂ [] [] tt (λ i z. refl) (all-partners caps _ _ a)

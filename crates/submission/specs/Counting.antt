@@ -19,20 +19,23 @@ abbrev pub Identifier-with-line : Type 0
 Identifier-with-line = (limits : Limits) (l : Bytes) (c : Call) → (answerTo limits l c .identifier ≡ 0 → ⊥) ↔ (publishes limits l c ≡ true)
 
 -- after any calls since opening, the identifier that a line takes is one more than the number of lines published since opening
-abbrev pub Identifier-counts : Type 0
-Identifier-counts =
-    (limits : Limits) (caps : Caps) (l : Bytes) (before : List Call) (c : Call)
-    → limits .largest < 256 ^ u32
+abbrev pub Identifier-counts-under : Limits → Type 0
+Identifier-counts-under limits =
+    (caps : Caps) (l : Bytes) (before : List Call) (c : Call)
     → opened limits caps l .verdict ≡ 0
     → answerTo limits (ledgerAfterAll limits (start limits caps l) before) c .identifier
     ≡ choose (publishes limits (ledgerAfterAll limits (start limits caps l) before) c) (suc (length (published limits (start limits caps l) before))) 0
 
+-- under any limits whose largest capacity the header's field can hold
+abbrev pub Identifier-counts : Type 0
+Identifier-counts = (limits : Limits) → limits .largest < 256 ^ u32 → Identifier-counts-under limits
+
 -- what holds of a ledger and is kept by each call holds of every ledger that calls lead to
 abbrev pub Kept-by-calls : Type 1
 Kept-by-calls =
-    (limits : Limits) (Holds : Bytes → Type 0)
-    → ((l : Bytes) (c : Call) → Holds l → Holds (ledgerAfter limits l c))
-    → (l : Bytes) (cs : List Call) → Holds l → Holds (ledgerAfterAll limits l cs)
+    (limits : Limits) (P : Bytes → Type 0)
+    → ((l : Bytes) (c : Call) → P l → P (ledgerAfter limits l c))
+    → (l : Bytes) (cs : List Call) → P l → P (ledgerAfterAll limits l cs)
 
 -- on any ledger, a call that writes neither ledger nor line leaves the rest of the tape as it would have been
 abbrev pub Quiet-call : Type 0

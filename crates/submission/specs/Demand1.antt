@@ -6,10 +6,10 @@ use mathlib.Core.Path.{_≡_}
 use Rattle.octets.specs.Bytes.{Bytes}
 use Rattle.actions.specs.declared.Action.{Action}
 use Rattle.actions.specs.declared.Checked.the-variants.{Value}
-use Rattle.actions.specs.Actions.{actionCode}
+use Rattle.actions.specs.Actions.{actionType}
 use Rattle.elements.specs.Codes.{uti}
 use Rattle.rules.specs.declared.checks.Check.{Check}
-use Rattle.rules.specs.Verdicts.{noAction, formBroken}
+use Rattle.rules.specs.Verdicts.{actionWrong, formBroken}
 use Rattle.rules.specs.Findings.{isOneOf, LowestAtFault}
 use Rattle.rules.specs.Rules.{atFault, numberOf}
 use Rattle.ledger.specs.declared.header.Caps.{Caps}
@@ -28,8 +28,8 @@ pub record NamesLowest (check : Check) (m : Bytes) (element : ℕ) : Type 0 wher
 -- the element that a submission names: those four, 6 names 2; elsewhere the element is 0
 pub record Names (s : Submitted) (m : Bytes) : Type 0 where
   pub lowest : (check : Check) → s .verdict ≡ numberOf check → NamesLowest check m (s .element)
-  pub action : s .verdict ≡ noAction → s .element ≡ actionCode
-  pub nothing : (s .verdict ≡ noAction → ⊥) → ((check : Check) → s .verdict ≡ numberOf check → ⊥) → s .element ≡ 0
+  pub action : s .verdict ≡ actionWrong → s .element ≡ actionType
+  pub nothing : (s .verdict ≡ actionWrong → ⊥) → ((check : Check) → s .verdict ≡ numberOf check → ⊥) → s .element ≡ 0
 
 -- a refusal: its number, no identifier beside it, and no byte of ledger or tape buffer is changed
 pub record Refusal (s : Submitted) (lent : Lent) : Type 0 where

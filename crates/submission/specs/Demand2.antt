@@ -14,7 +14,7 @@ use Rattle.actions.specs.declared.Action.{Action}
 use Rattle.actions.specs.declared.Checked.the-variants.{Value}
 use Rattle.actions.specs.Actions.{isFull, isNew, writesLine, repeatsTime, nextStatus}
 use Rattle.actions.specs.Statuses.{live, ported, noStep}
-use Rattle.elements.specs.Codes.{uti, executionTime}
+use Rattle.elements.specs.Codes.{uti, executionTimestamp}
 use Rattle.elements.specs.Forms.{hasForm}
 use Rattle.rules.specs.Verdicts.{formBroken}
 use Rattle.rules.specs.Findings.{ruleNumber, FirstBroken}
@@ -51,7 +51,7 @@ pub record RightRow (next : ℕ) (r : Bytes) : Type 0 where
   pub before : identifierOf r < next
 
 -- what document 01 asks of a message that is accepted, in words: 3 and 4, the message alone (5 to 13), and 14 to 18
-pub record Sound (limits : Limits) (lent : Lent) (m : Bytes) : Type 0 where
+pub record RulesAccept (limits : Limits) (lent : Lent) (m : Bytes) : Type 0 where
   pub action : Action
   pub reads : actionIn m ≡ Value action
   pub header : RightHeader (limits .largest) (lent .ledger)
@@ -59,12 +59,12 @@ pub record Sound (limits : Limits) (lent : Lent) (m : Bytes) : Type 0 where
   pub message : verdict (limits .longest) m ≡ (0, 0)
   pub row : isKnown (lent .ledger) (swapOf m) ≡ true → RightRow (nextIdentifier (lent .ledger)) (swapRow (lent .ledger) (swapOf m))
   pub step : nextStatus action (swapStatus (lent .ledger) (swapOf m)) ≡ noStep → ⊥
-  pub time : repeatsTime action ≡ true → value executionTime m ≡ storedTime (swapRow (lent .ledger) (swapOf m))
+  pub time : repeatsTime action ≡ true → value executionTimestamp m ≡ storedTime (swapRow (lent .ledger) (swapOf m))
   pub room : isNew action ≡ true → rowsInUse (lent .ledger) ≡ capacityIn (lent .ledger) → ⊥
   pub spare : writesLine action ≡ true → nextIdentifier (lent .ledger) ≡ identifierLimit → ⊥
 
 abbrev pub Accepted-exactly : Type 0
-Accepted-exactly = (limits : Limits) (lent : Lent) (m : Bytes) → (submitted limits lent m .verdict ≡ 0) ↔ Sound limits lent m
+Accepted-exactly = (limits : Limits) (lent : Lent) (m : Bytes) → (submitted limits lent m .verdict ≡ 0) ↔ RulesAccept limits lent m
 
 -- ---- what an accepted message writes
 
@@ -105,8 +105,12 @@ pub record Written (lent : Lent) (m : Bytes) (s : Submitted) : Type 0 where
   pub tape : TapeWritten action (lent .ledger) (lent .buffers .tape) m (s .lent .buffers .tape)
   pub identifier : s .identifier ≡ choose (writesLine action) (nextIdentifier (lent .ledger)) 0
 
+abbrev pub Writes-under : Limits → Type 0
+Writes-under limits = (lent : Lent) (m : Bytes) → submitted limits lent m .verdict ≡ 0 → Written lent m (submitted limits lent m)
+
+-- under any limits whose largest capacity the header's field can hold
 abbrev pub Acceptance-writes : Type 0
-Acceptance-writes = (limits : Limits) (lent : Lent) (m : Bytes) → limits .largest < 256 ^ u32 → submitted limits lent m .verdict ≡ 0 → Written lent m (submitted limits lent m)
+Acceptance-writes = (limits : Limits) → limits .largest < 256 ^ u32 → Writes-under limits
 
 -- ---- opening
 
@@ -124,6 +128,10 @@ pub record HeaderWritten (limits : Limits) (caps : Caps) (l l′ : Bytes) : Type
   pub header : Placed rowsAt (headerFields caps (capacityFor (limits .largest) (length l))) l′
   pub later : drop headerSize l′ ≡ drop headerSize l
   pub long : length l′ ≡ length l
+
+-- what opening wrote passes 3
+abbrev pub Opening-passes : Type 0
+Opening-passes = (limits : Limits) (caps : Caps) (l : Bytes) → limits .largest < 256 ^ u32 → opened limits caps l .verdict ≡ 0 → headerRight (limits .largest) (opened limits caps l .ledger) ≡ true
 
 abbrev pub Opening-writes : Type 0
 Opening-writes = (limits : Limits) (caps : Caps) (l : Bytes) → opened limits caps l .verdict ≡ 0 → HeaderWritten limits caps l (opened limits caps l .ledger)

@@ -1,4 +1,4 @@
--- Document 01, 'The tape line': the tape as the published messages alone tell it: those that were accepted and wrote a line, and the caps.
+-- Document 01, 'The tape line': the tape as a function of the published messages, those that were accepted and wrote a line, and of the caps alone.
 use Prim.Native.Nat.{ℕ, suc, _^_, _<_}
 use mathlib.Core.Path.{_≡_}
 use mathlib.Core.List.{List, [], _∷_, _++_}
@@ -36,25 +36,28 @@ lastMasked caps u [] = []
 lastMasked caps u (e ∷ earlier) =
     choose (both (sameBytes (swapOf e) u) (hasAction isFull e)) (maskedTerms caps e) (lastMasked caps u earlier)
 
-unfoldable pub toldTerms : Caps → List Bytes → Bytes → Bytes
-toldTerms caps earlier m = choose (hasAction isFull m) (maskedTerms caps m) (lastMasked caps (swapOf m) earlier)
+unfoldable pub publishedTerms : Caps → List Bytes → Bytes → Bytes
+publishedTerms caps earlier m = choose (hasAction isFull m) (maskedTerms caps m) (lastMasked caps (swapOf m) earlier)
 
 abbrev pub lineBy : Checked → ℕ → ℕ → Bytes → Bytes → Bytes
 lineBy (Fault code) identifier previous m terms = []
 lineBy (Value a) identifier previous m terms = line a identifier previous m terms
 
 -- the line of a message that is published after the earlier ones
-unfoldable pub toldLine : Caps → List Bytes → Bytes → Bytes
-toldLine caps earlier m = lineBy (actionIn m) (suc (length earlier)) (lastIdentifier (swapOf m) earlier) m (toldTerms caps earlier m)
+unfoldable pub publishedLine : Caps → List Bytes → Bytes → Bytes
+publishedLine caps earlier m = lineBy (actionIn m) (suc (length earlier)) (lastIdentifier (swapOf m) earlier) m (publishedTerms caps earlier m)
 
-unfoldable pub told : Caps → List Bytes → List Bytes → Bytes
-told caps earlier [] = []
-told caps earlier (m ∷ ms) = toldLine caps earlier m ++ told caps (m ∷ earlier) ms
+unfoldable pub publishedTape : Caps → List Bytes → List Bytes → Bytes
+publishedTape caps earlier [] = []
+publishedTape caps earlier (m ∷ ms) = publishedLine caps earlier m ++ publishedTape caps (m ∷ earlier) ms
 
 -- the tape says what the published messages and the caps say, and nothing else
-abbrev pub Tape-told : Type 0
-Tape-told =
-    (limits : Limits) (caps : Caps) (l : Bytes) (h : List Call)
-    → limits .largest < 256 ^ u32
+abbrev pub Tape-published-under : Limits → Type 0
+Tape-published-under limits =
+    (caps : Caps) (l : Bytes) (h : List Call)
     → opened limits caps l .verdict ≡ 0
-    → tape limits (start limits caps l) h ≡ told caps [] (published limits (start limits caps l) h)
+    → tape limits (start limits caps l) h ≡ publishedTape caps [] (published limits (start limits caps l) h)
+
+-- under any limits whose largest capacity the header's field can hold
+abbrev pub Tape-published : Type 0
+Tape-published = (limits : Limits) → limits .largest < 256 ^ u32 → Tape-published-under limits

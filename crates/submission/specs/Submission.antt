@@ -15,7 +15,7 @@ use Rattle.actions.specs.declared.Checked.{Checked}
 use Rattle.actions.specs.declared.Checked.the-variants.{Fault, Value}
 use Rattle.actions.specs.Actions.{isFull, isNew, writesLine, repeatsTime, nextStatus}
 use Rattle.actions.specs.Statuses.{live, ported, noStep}
-use Rattle.elements.specs.Codes.{uti, executionTime, assetClass}
+use Rattle.elements.specs.Codes.{uti, executionTimestamp, assetClass}
 use Rattle.terms.specs.Terms.{termsOf}
 use Rattle.rules.specs.Findings.{Rule, test, firstBroken}
 use Rattle.rules.specs.Rules.{rulesFor}
@@ -51,7 +51,7 @@ isNotAdmitted a s = eqb (nextStatus a (s .status)) noStep
 
 -- MODI or REVI has another execution timestamp than the row (16)
 unfoldable pub hasOtherTime : Action → Bytes → Bytes → Bool
-hasOtherTime a time m = both (repeatsTime a) (not (sameBytes (value executionTime m) time))
+hasOtherTime a time m = both (repeatsTime a) (not (sameBytes (value executionTimestamp m) time))
 
 -- NEWT finds rows in use equal to capacity (17)
 unfoldable pub findsFull : Action → Header → Bool

@@ -6,7 +6,7 @@ use mathlib.Core.List.{[]}
 use Rattle.octets.specs.Bytes.{Bytes}
 use Rattle.octets.specs.Choice.{choose}
 use Rattle.message.specs.Values.{value}
-use Rattle.elements.specs.Codes.{executionTime, effectiveDate, expirationDate, cleared, nonStandardizedTerm, blockElection, largeNotionalElection, packageIndicator, packagePrice, priceNotation, priceCurrency, notionalAmount, notionalCurrency, settlementLocation, assetClass}
+use Rattle.elements.specs.Codes.{executionTimestamp, effectiveDate, expirationDate, cleared, nonStandardizedTerm, blockElection, largeNotionalElection, packageIndicator, packagePrice, priceNotation, priceCurrency, notionalAmount, notionalCurrency, settlementLocation, assetClass}
 use Rattle.elements.specs.Conditions.{isPackage, valueIs, factsOf, met, kept}
 use Rattle.elements.specs.Table.{elementOf}
 use Rattle.terms.specs.Terms.{termsOf}
@@ -36,7 +36,7 @@ terms-public cap₁ cap₂ m₁ m₂ same masked =
       amount-kept m₂,
       ap (λ p. p .0) masked,
       ap (λ p. p .1) masked,
-      k executionTime refl,
+      k executionTimestamp refl,
       k effectiveDate refl,
       k expirationDate refl,
       k cleared refl,

@@ -9,7 +9,7 @@ use Rattle.octets.specs.Number.{digits}
 use Rattle.octets.specs.Fields.{FieldText, sizeOf, bytesOf}
 use Rattle.values.specs.Code.{isTrue}
 use Rattle.values.specs.Limits.{currencySize, locationSize}
-use Rattle.elements.specs.Codes.{executionTime, effectiveDate, expirationDate, cleared, nonStandardizedTerm, blockElection, largeNotionalElection, packageIndicator, packagePrice, priceNotation, priceCurrency, notionalAmount, notionalCurrency, settlementLocation, assetClass}
+use Rattle.elements.specs.Codes.{executionTimestamp, effectiveDate, expirationDate, cleared, nonStandardizedTerm, blockElection, largeNotionalElection, packageIndicator, packagePrice, priceNotation, priceCurrency, notionalAmount, notionalCurrency, settlementLocation, assetClass}
 use Rattle.elements.specs.Conditions.{kept}
 use Rattle.notional.specs.Amount.{amount}
 use Rattle.notional.specs.Masking.{over, shown}
@@ -53,7 +53,7 @@ plusText plus = choose plus (text "+") []
 -- execution time, effective, expiration, Cleared
 abbrev pub dateFields : Bytes → List FieldText
 dateFields m =
-    (timeSize, kept executionTime m)
+    (timeSize, kept executionTimestamp m)
     ∷ (dateSize, kept effectiveDate m)
     ∷ (dateSize, kept expirationDate m)
     ∷ (markSize, kept cleared m)

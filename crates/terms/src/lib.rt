@@ -15,7 +15,7 @@ use elements::ASSET_CLASS;
 use elements::BLOCK_ELECTION;
 use elements::CLEARED;
 use elements::EFFECTIVE_DATE;
-use elements::EXECUTION_TIME;
+use elements::EXECUTION_TIMESTAMP;
 use elements::EXPIRATION_DATE;
 use elements::Facts;
 use elements::LARGE_NOTIONAL_ELECTION;
@@ -139,7 +139,7 @@ fn write_dates(dst: &mut [u8], m: &[u8], facts: Facts)
     requires { ⌜ facts ≡ factsOf (now m) ⌝ }
     ensures { λ _. ⌜ now (dst .exit) ≡ written 0 (dateFields (now (m .entry))) (now (dst .entry)) ⌝ }
 {
-    text_at(dst, EXECUTION_AT, TIME_SIZE, m, facts, EXECUTION_TIME);
+    text_at(dst, EXECUTION_AT, TIME_SIZE, m, facts, EXECUTION_TIMESTAMP);
     text_at(dst, EFFECTIVE_AT, DATE_SIZE, m, facts, EFFECTIVE_DATE);
     text_at(dst, EXPIRATION_AT, DATE_SIZE, m, facts, EXPIRATION_DATE);
     text_at(dst, CLEARED_AT, MARK_SIZE, m, facts, CLEARED);

@@ -54,7 +54,7 @@ fn read_on(n: u64, v: &[u8]) -> u64
 }
 
 // The remainder of the whole number that a value spells, a few characters at a time.
-fn spelled(v: &[u8]) -> u64
+fn remainder_of(v: &[u8]) -> u64
     ensures { λ r. ⌜ r ≡ spell 0 (now (v .entry)) % leiModulus ⌝ }
 {
     let mut r: u64 = 0;
@@ -79,5 +79,5 @@ pub fn is_lei(v: &[u8]) -> bool
     if !run_of(LEI_CHECK, LEI_CHECK, Class::Digit, &v[LEI_BODY..]) {
         return false;
     }
-    spelled(v) == 1
+    remainder_of(v) == 1
 }

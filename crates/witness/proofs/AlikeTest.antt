@@ -15,12 +15,12 @@ use Rattle.octets.proofs.ChoiceLaws.{both-first, both-second}
 use Rattle.octets.proofs.SearchLaws.{all-at}
 use Rattle.octets.proofs.SameLaws.{same-true, same-refl}
 use Rattle.message.specs.Values.{value}
-use Rattle.actions.specs.Actions.{actionCode}
-use Rattle.elements.specs.Codes.{eventType, eventTime}
+use Rattle.actions.specs.Actions.{actionType}
+use Rattle.elements.specs.Codes.{eventType, eventTimestamp}
 use Rattle.ledger.specs.declared.header.Caps.{Caps}
 use Rattle.submission.specs.Submission.{swapOf}
 use Rattle.submission.specs.History.{Judgement}
-use Rattle.submission.specs.Demand3.{messageAt, verdictAt, Accepted, maskedTermsAt, SameShown, Alike}
+use Rattle.submission.specs.Demand3.{messageAt, verdictAt, AcceptedAt, maskedTermsAt, SameShown, Alike}
 
 -- ---- the test: a part for each premise
 
@@ -32,7 +32,7 @@ abbrev pub sameValue : ℕ → Bytes → Bytes → Bool
 sameValue code m₁ m₂ = sameBytes (value code m₁) (value code m₂)
 
 abbrev pub sameShown : Bytes → Bytes → Bool
-sameShown m₁ m₂ = both (sameValue actionCode m₁ m₂) (both (sameValue eventType m₁ m₂) (sameValue eventTime m₁ m₂))
+sameShown m₁ m₂ = both (sameValue actionType m₁ m₂) (both (sameValue eventType m₁ m₂) (sameValue eventTimestamp m₁ m₂))
 
 abbrev pub sameSwap : List Judgement → ℕ → ℕ → Bool
 sameSwap js i j = sameBytes (swapOf (messageAt js i)) (swapOf (messageAt js j))
@@ -58,7 +58,7 @@ alikeTest caps js ks =
 pub at-place : (f : ℕ → Bool) (n i : ℕ) → i < n → all f n ≡ true → f i ≡ true
 at-place f n i h e = rw zero-add at (all-at f 0 n i h e)
 
-if-accepted : (js : List Judgement) (i : ℕ) (t : Bool) → Accepted js i → ifAccepted js i t ≡ true → t ≡ true
+if-accepted : (js : List Judgement) (i : ℕ) (t : Bool) → AcceptedAt js i → ifAccepted js i t ≡ true → t ≡ true
 if-accepted js i t a e = rw (eq-eqb (verdictAt js i) 0 (a .1)) at e
 
 same-value : (code : ℕ) (m₁ m₂ : Bytes) → sameValue code m₁ m₂ ≡ true → value code m₁ ≡ value code m₂
@@ -66,8 +66,8 @@ same-value code m₁ m₂ e = same-true (value code m₁) (value code m₂) e
 
 same-shown : (m₁ m₂ : Bytes) → sameShown m₁ m₂ ≡ true → SameShown m₁ m₂
 same-shown m₁ m₂ e =
-    let rest : both (sameValue eventType m₁ m₂) (sameValue eventTime m₁ m₂) ≡ true = both-second (sameValue actionCode m₁ m₂) _ e in
-    (same-value actionCode m₁ m₂ (both-first (sameValue actionCode m₁ m₂) _ e), same-value eventType m₁ m₂ (both-first (sameValue eventType m₁ m₂) _ rest), same-value eventTime m₁ m₂ (both-second (sameValue eventType m₁ m₂) _ rest))
+    let rest : both (sameValue eventType m₁ m₂) (sameValue eventTimestamp m₁ m₂) ≡ true = both-second (sameValue actionType m₁ m₂) _ e in
+    (same-value actionType m₁ m₂ (both-first (sameValue actionType m₁ m₂) _ e), same-value eventType m₁ m₂ (both-first (sameValue eventType m₁ m₂) _ rest), same-value eventTimestamp m₁ m₂ (both-second (sameValue eventType m₁ m₂) _ rest))
 
 beq-same : (a b : Bool) → Bool·beq a b ≡ true → a ≡ b
 beq-same true true e = refl

@@ -3,7 +3,7 @@ use Rattle.octets.specs.Field.{field}
 use Rattle.octets.specs.Fields.{bytesOf}
 use Rattle.octets.specs.Number.{fromLe, toLe, digits}
 use Rattle.octets.specs.Part.{splice}
-use Rattle.octets.specs.Same.{sameBytes, place, oneOf, beside}
+use Rattle.octets.specs.Same.{sameBytes, place, oneOf, lookUp}
 use Rattle.octets.specs.Search.{firstFrom, allFrom}
 use Rattle.octets.specs.Text.{text}
 use Rattle.values.specs.Code.{isTrue, isFalse, isTruth, isCleared, isAllocation, isNotation, isAssetClass}
@@ -25,7 +25,7 @@ use Rattle.notional.specs.Rounding.{bands, stepIn, step, nearest, rounded}
 use Rattle.price.specs.Price.{dropZeros, trimZeros, shownWhole, shownDecimals, shownUnsigned, isZero, showsMinus, shownSign, shownPrice}
 use Rattle.terms.specs.Terms.{shownTruth, priceText, plusText, termsOf}
 use Rattle.rules.specs.Findings.{lowest, firstBroken}
-use Rattle.rules.specs.Rules.{longPrice, priceTooLong, outOfOrder, rulesOf, rulesFor}
+use Rattle.rules.specs.Rules.{longPrice, hasLongPrice, outOfOrder, rulesOf, rulesFor}
 use Rattle.ledger.specs.Header.{rowsInUse, firstRow, nextIdentifier, capsIn, sizeOfRows, capacityIn, capFor, areCaps, capacityFor, headerRight, headerOf, newHeader}
 use Rattle.ledger.specs.Line.{line}
 use Rattle.ledger.specs.Rows.{rowAt, statusOf, identifierOf, storedTerms, storedTime, holdsUti, placeIn, isKnown, swapStatus, swapIdentifier, swapTime, newRow, withStatus, withIdentifier, withTerms, withRows, withNext, headerAfter}
@@ -40,7 +40,7 @@ use Rattle.witness.specs.Lines.{lineText, lines, tapeText}
 use Rattle.witness.proofs.AlikeTest.{alikeTest}
 
 bytes : Unit {0}
-unfolding field bytesOf fromLe toLe digits splice sameBytes place oneOf beside firstFrom allFrom text
+unfolding field bytesOf fromLe toLe digits splice sameBytes place oneOf lookUp firstFrom allFrom text
 bytes = tt
 
 forms : Unit {0}
@@ -56,7 +56,7 @@ unfolding digit spelled fraction amount over shown isCap bands stepIn step neare
 masking = tt
 
 judging : Unit {0}
-unfolding lowest firstBroken longPrice priceTooLong outOfOrder rulesOf rulesFor
+unfolding lowest firstBroken longPrice hasLongPrice outOfOrder rulesOf rulesFor
 judging = tt
 
 storing : Unit {0}

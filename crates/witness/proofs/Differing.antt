@@ -15,8 +15,8 @@ use Rattle.witness.proofs.AlikeTest.{at-place}
 use Rattle.witness.proofs.Computing.{computing}
 
 -- bytes that the test tells apart are not equal
-told-apart : (u v : Bytes) → not (sameBytes u v) ≡ true → u ≡ v → ⊥
-told-apart u v e = same-apart u v (not-true (sameBytes u v) e)
+bytes-differ : (u v : Bytes) → not (sameBytes u v) ≡ true → u ≡ v → ⊥
+bytes-differ u v e = same-apart u v (not-true (sameBytes u v) e)
 
 numbers-apart : (a b : ℕ) → not (eqb a b) ≡ true → a ≡ b → ⊥
 numbers-apart a b e = eqb-false a b (not-true (eqb a b) e)
@@ -36,7 +36,7 @@ buffers-tested = refl
 pub histories-differ : Differ
 histories-differ =
     record {
-      elements = λ i k h l. told-apart _ _ (at-place _ (length hiddenCodes) k l (at-place _ (length fullPlaces) i h elements-tested));
+      elements = λ i k h l. bytes-differ _ _ (at-place _ (length hiddenCodes) k l (at-place _ (length fullPlaces) i h elements-tested));
       amounts = λ i h. numbers-apart _ _ (at-place _ (length fullPlaces) i h amounts-tested);
       buffers = λ i h. numbers-apart _ _ (at-place _ (length left) i h buffers-tested);
       ledgers = numbers-apart (length leftLedger) (length rightLedger) refl;

@@ -7,7 +7,7 @@ use native.Mathlib.Omega.{arith}
 use Rattle.octets.specs.Bytes.{Bytes}
 use Rattle.octets.specs.Text.{text}
 use Rattle.message.specs.Values.{value}
-use Rattle.actions.specs.Actions.{actionCode}
+use Rattle.actions.specs.Actions.{actionType}
 use Rattle.ledger.specs.Layout.{u32}
 use Rattle.submission.specs.Verdicts.{notAdmitted}
 use Rattle.submission.specs.Opening.{opened}
@@ -35,7 +35,7 @@ judgedRight = judgements limits (start limits caps rightLedger) right
 
 -- the action and the verdict of each message
 abbrev pub actionsJudged : List Judgement → List (Bytes × ℕ)
-actionsJudged js = map (λ j. (value actionCode (j .message), j .verdict)) js
+actionsJudged js = map (λ j. (value actionType (j .message), j .verdict)) js
 
 -- each of the seven actions is accepted; the third message, with this action, is refused
 abbrev pub allActions : String → List (Bytes × ℕ)
@@ -68,4 +68,4 @@ limits-fit : limits .largest < 256 ^ u32
 limits-fit = omega arith
 
 pub demand-3-applies : tape limits (start limits caps leftLedger) left ≡ tape limits (start limits caps rightLedger) right
-demand-3-applies = same-tapes limits caps leftLedger rightLedger left right limits-fit opened-left opened-right premises-met
+demand-3-applies = same-tapes limits limits-fit caps leftLedger rightLedger left right opened-left opened-right premises-met

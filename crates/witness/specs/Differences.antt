@@ -5,7 +5,7 @@ use mathlib.Core.List.{List, [], _∷_, map}
 use lib.ListN.{length, getD}
 use Rattle.octets.specs.Bytes.{Bytes}
 use Rattle.message.specs.Values.{value}
-use Rattle.elements.specs.Codes.{uti, reportingTime, settlementDate, packageIdentifier, packagePrice, notionalAmount}
+use Rattle.elements.specs.Codes.{uti, reportingTimestamp, settlementDate, packageIdentifier, packagePrice, notionalAmount}
 use Rattle.notional.specs.Amount.{amount}
 use Rattle.submission.specs.History.{Call, submit, messageOf}
 use Rattle.witness.specs.Messages.{allocation, counterparty1, counterparty2}
@@ -13,7 +13,7 @@ use Rattle.witness.specs.Histories.{left, leftLedger, right, rightLedger
 
 -- the elements that the tape does not show, or not as they were sent
 abbrev pub hiddenCodes : List ℕ
-hiddenCodes = uti ∷ reportingTime ∷ settlementDate ∷ allocation ∷ packageIdentifier ∷ packagePrice ∷ notionalAmount ∷ counterparty1 ∷ counterparty2 ∷ []
+hiddenCodes = uti ∷ reportingTimestamp ∷ settlementDate ∷ allocation ∷ packageIdentifier ∷ packagePrice ∷ notionalAmount ∷ counterparty1 ∷ counterparty2 ∷ []
 
 -- the places of the accepted full messages
 abbrev pub fullPlaces : List ℕ

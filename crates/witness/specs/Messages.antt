@@ -4,8 +4,8 @@ use Prim.Native.Nat.{ℕ}
 use Prim.Native.String.{String}
 use mathlib.Core.List.{List, [], _∷_, _++_}
 use Rattle.octets.specs.Bytes.{Bytes}
-use Rattle.actions.specs.Actions.{actionCode}
-use Rattle.elements.specs.Codes.{uti, eventType, eventTime, reportingTime, executionTime, effectiveDate, expirationDate, settlementDate, cleared, nonStandardizedTerm, blockElection, largeNotionalElection, packageIndicator, packageIdentifier, packagePrice, priceNotation, priceCurrency, notionalAmount, notionalCurrency, settlementLocation, assetClass}
+use Rattle.actions.specs.Actions.{actionType}
+use Rattle.elements.specs.Codes.{uti, eventType, eventTimestamp, reportingTimestamp, executionTimestamp, effectiveDate, expirationDate, settlementDate, cleared, nonStandardizedTerm, blockElection, largeNotionalElection, packageIndicator, packageIdentifier, packagePrice, priceNotation, priceCurrency, notionalAmount, notionalCurrency, settlementLocation, assetClass}
 use Rattle.witness.specs.Encoding.{Element, encoded}
 
 -- elements that only this crate speaks of by name
@@ -31,10 +31,10 @@ pub record Hidden : Type 0 where
 -- ---- what a message shows of itself: action, event or none, event time
 
 abbrev pub withEvent : String → String → String → List Element
-withEvent action event time = (actionCode, action) ∷ (eventType, event) ∷ (eventTime, time) ∷ []
+withEvent action event time = (actionType, action) ∷ (eventType, event) ∷ (eventTimestamp, time) ∷ []
 
 abbrev pub withoutEvent : String → String → List Element
-withoutEvent action time = (actionCode, action) ∷ (eventTime, time) ∷ []
+withoutEvent action time = (actionType, action) ∷ (eventTimestamp, time) ∷ []
 
 -- ---- full messages of a swap of a package with a price in dollars
 
@@ -43,8 +43,8 @@ packageSwap shown expiration h reported amount =
     encoded
     ((uti, h .uti)
     ∷ (shown
-    ++ ((reportingTime, reported)
-    ∷ (executionTime, "2026-03-02T14:29:58Z")
+    ++ ((reportingTimestamp, reported)
+    ∷ (executionTimestamp, "2026-03-02T14:29:58Z")
     ∷ (effectiveDate, "2026-03-04")
     ∷ (expirationDate, expiration)
     ∷ (settlementDate, h .settlement)
@@ -84,8 +84,8 @@ unclearedSwap shown executed h reported amount =
     encoded
     ((uti, h .uti)
     ∷ (shown
-    ++ ((reportingTime, reported)
-    ∷ (executionTime, executed)
+    ++ ((reportingTimestamp, reported)
+    ∷ (executionTimestamp, executed)
     ∷ (effectiveDate, "2026-04-01")
     ∷ (expirationDate, "2027-04-01")
     ∷ (settlementDate, h .settlement)
@@ -115,7 +115,7 @@ correctedUnclearedSwap = unclearedSwap (withoutEvent "CORR" "2026-03-03T16:20:00
 -- ---- short messages
 
 unfoldable pub shortMessage : List Element → Hidden → String → Bytes
-shortMessage shown h reported = encoded ((uti, h .uti) ∷ (shown ++ ((reportingTime, reported) ∷ [])))
+shortMessage shown h reported = encoded ((uti, h .uti) ∷ (shown ++ ((reportingTimestamp, reported) ∷ [])))
 
 -- a swap is terminated early
 abbrev pub termination : Hidden → String → Bytes

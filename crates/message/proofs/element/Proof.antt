@@ -12,7 +12,7 @@ use Rattle.octets.specs.Bytes.{Bytes}
 use Rattle.octets.specs.Part.{PartOf}
 use Rattle.message.specs.Values.{offsetOf, value as valueOf}
 use Rattle.message.specs.declared.Reader.{Reader}
-use Rattle.message.proofs.Walk.{URA, id⊢, Model, Heap, Lfts, Shares, Running, GhostRules, ‵, _$_, !, by, move, drop, use1, fsplit, look, init, stop, from, and-then, no-more, land, returns, alloc1, alloc0, params1, pass1, pass0, free0, rules, Params, Case, Exits, ends, shown, Walk, reaches, calls, beside, local, gone}
+use Rattle.message.proofs.Walk.{URA, id⊢, Model, Heap, Lfts, Shares, Running, GhostRules, ‵, _$_, !, by, move, drop, use1, fsplit, look, init, stop, from, and-then, no-more, land, returns, alloc1, alloc0, params1, pass1, pass0, free0, rules, Params, Case, Exits, ends, shown, Walk, reaches, calls, with-others, local, gone}
 use Rattle.message.proofs.Held.{Lent, Held, Next, Valued, bytes, lent, code as number, lent-fits, reader-fits, numbers}
 use Rattle.message.proofs.start as start
 use Rattle.message.proofs.start.Met as started
@@ -58,14 +58,14 @@ module _ {M : Type 1} (𝓤 : URA M) (H : Heap 𝓤) (𝓜 : Model 𝓤 H) (𝓖
   walk κs qs _ (m, (c, _)) _ (is, (is-c, _)) =
       alloc1 ! (λ l₀. alloc1 ! (λ l₁. alloc1 ! (λ l₂. alloc1 ! (λ l₃. alloc1 ! (λ l₄. alloc0 ! $ params1 ! $ pass1 ! (init ! 6 refl (lent-fits 𝓤 H 𝓜 𝓖 (κs .0) m _ is .0)) $ pass1 ! (init ! 4 refl (tt, record { fits = is-c .1 })) $ pass0 ! $
       -- [room for the reader at the start; …; room for the reader at the entry; …; code; …; m; …; room for the answer; …; the tokens; m and the code, twice]
-      move ! (11 ∷ []) $ fsplit ! $ move ! (1 ∷ []) $ drop ! $ use1 (rules 𝓤 H 𝓜 𝓖) (‵ (owns (Lent (κs .0) ∷ []) (m, tt) (bytes m ∷ [], tt))) (beside 𝓤 H (𝓖 .A) (Lent (κs .0)) m (bytes m ∷ []) [] tt tt (id⊢ 𝓤 _)) $ move ! (0 ∷ 11 ∷ []) $
+      move ! (11 ∷ []) $ fsplit ! $ move ! (1 ∷ []) $ drop ! $ use1 (rules 𝓤 H 𝓜 𝓖) (‵ (owns (Lent (κs .0) ∷ []) (m, tt) (bytes m ∷ [], tt))) (with-others 𝓤 H (𝓖 .A) (Lent (κs .0)) m (bytes m ∷ []) [] tt tt (id⊢ 𝓤 _)) $ move ! (0 ∷ 11 ∷ []) $
       -- [what goes to the callee; the tokens; the locals as before; m and the code]; and so before each call
       calls 𝓤 H 𝓜 𝓖 𝓡 start.ended (start.clauses 𝓤 H) code.env code.calls-message·start (started.met 𝓤 H 𝓜 𝓖 𝓡) ((κs, qs, tt, (m, tt), (bytes m ∷ [], tt)), tt) (id⊢ 𝓤 _) (Started m) (λ d ws. id⊢ 𝓤 _) !
       (and-then ! (local ! 7 refl) (no-more !)) (λ u d e fits. land ! (from ! (stop !)) (init ! 2 refl (reader-fits 𝓤 H 𝓜 𝓖 (unnamed (κs .0)) d u fits .0)) $
-      use1 (rules 𝓤 H 𝓜 𝓖) (‵ (owns (Held κs ∷ u8 ∷ []) (d, (c, tt)) (u ∷ [], (vint w8 c ∷ [], tt)))) (beside 𝓤 H (𝓖 .A) (Held κs) d (u ∷ []) (u8 ∷ []) (c, tt) (vint w8 c ∷ [], tt) (numbers 𝓤 H 𝓜 𝓖 (w8 ∷ []) (c, tt) (is-c .1, tt))) $
+      use1 (rules 𝓤 H 𝓜 𝓖) (‵ (owns (Held κs ∷ u8 ∷ []) (d, (c, tt)) (u ∷ [], (vint w8 c ∷ [], tt)))) (with-others 𝓤 H (𝓖 .A) (Held κs) d (u ∷ []) (u8 ∷ []) (c, tt) (vint w8 c ∷ [], tt) (numbers 𝓤 H 𝓜 𝓖 (w8 ∷ []) (c, tt) (is-c .1, tt))) $
       calls 𝓤 H 𝓜 𝓖 𝓡 seek.ended (seek.clauses 𝓤 H) code.env code.calls-message·Reader·seek (sought.met 𝓤 H 𝓜 𝓖 𝓡) ((κs, qs, tt, (d, (c, tt)), (u ∷ [], (vint w8 c ∷ [], tt))), tt) (id⊢ 𝓤 _) (Sought d c) (λ d′ ws. id⊢ 𝓤 _) !
       (and-then ! (local ! 1 refl) (and-then ! (local ! 5 refl) (no-more !))) (λ u′ d′ e′ fits′. land ! (from ! (stop !)) (init ! 4 refl (reader-fits 𝓤 H 𝓜 𝓖 (unnamed (κs .0)) d′ u′ fits′ .0)) $
-      use1 (rules 𝓤 H 𝓜 𝓖) (‵ (owns (Held κs ∷ []) (d′, tt) (u′ ∷ [], tt))) (beside 𝓤 H (𝓖 .A) (Held κs) d′ (u′ ∷ []) [] tt tt (id⊢ 𝓤 _)) $
+      use1 (rules 𝓤 H 𝓜 𝓖) (‵ (owns (Held κs ∷ []) (d′, tt) (u′ ∷ [], tt))) (with-others 𝓤 H (𝓖 .A) (Held κs) d′ (u′ ∷ []) [] tt tt (id⊢ 𝓤 _)) $
       calls 𝓤 H 𝓜 𝓖 𝓡 value.ended (value.clauses 𝓤 H) code.env code.calls-message·Reader·value (valued.met 𝓤 H 𝓜 𝓖 𝓡) ((κs, qs, tt, (d′, tt), (u′ ∷ [], tt)), tt) (id⊢ 𝓤 _) (Valued d′) (λ r ws. id⊢ 𝓤 _) !
       (and-then ! (local ! 3 refl) (no-more !)) (λ v r e″ fits″. land ! (from ! (stop !)) (init ! 10 refl (lent-fits 𝓤 H 𝓜 𝓖 (κs .0) r v fits″ .0)) $
       returns ! (look ! 10 refl) $ gone ! 10 refl refl $ gone ! 8 refl refl $ gone ! 6 refl refl $ gone ! 4 refl refl $ gone ! 2 refl refl $ free0 ! $

@@ -15,9 +15,9 @@ use Rattle.notional.proofs.mask.Statement.{statement}
 use Rattle.notional.proofs.mask.Tie as tie
 
 -- the test of the cap is the test of the exact amount
-told : (c : tie.After-is-over) → c .is-over .result ≡ over (c .before .before .before .before .args .cap) (amount (now (c .before .before .before .before .args .v)))
+ensured : (c : tie.After-is-over) → c .is-over .result ≡ over (c .before .before .before .before .args .cap) (amount (now (c .before .before .before .before .args .v)))
 unfolding amount
-told c =
+ensured c =
     let a = c .before .before .before .before .args in
     let w = c .before .before .whole-units in
     let f = c .before .fraction-of in
@@ -29,12 +29,12 @@ told c =
 returns : tie.Need-returns
 returns c =
     let a = c .before .before .before .before .before .args in
-    let above : over (a .cap) (amount (now (a .v))) ≡ true = sym (told (c .before)) ∙ c .if1 .taken in
+    let above : over (a .cap) (amount (now (a .v))) ≡ true = sym (ensured (c .before)) ∙ c .if1 .taken in
     ((sym (shown-over _ _ above), sym above), (examples-shown, nearest-step))
 
 -- an amount up to the cap
 below : (c : tie.Else1) → over (c .before .before .before .before .before .args .cap) (amount (now (c .before .before .before .before .before .args .v))) ≡ false
-below c = sym (told (c .before)) ∙ c .if1 .left
+below c = sym (ensured (c .before)) ∙ c .if1 .left
 
 -- its whole units did not stop growing
 whole-kept : (c : tie.Else1) → c .before .before .before .whole-units .result ≡ spelled 0 (wholeOf (now (c .before .before .before .before .before .args .v)))

@@ -25,8 +25,8 @@ abbrev μ-loop : tie.MeasureT-loop
 μ-loop v codes width count k₀ k = count - k
 
 -- what the test of code k tells of it
-told : (c : tie.After-same Inv-loop μ-loop) → Is (now (c .before .before .before .before .before .before .args .v)) (now (c .before .before .before .before .before .before .args .codes)) (c .before .before .before .before .before .before .args .width) (c .before .before .before .loop .k) ≡ c .same .result
-told c = ap (sameBytes _) (sym (c .before .part-of .ensures .0)) ∙ sym (c .same .ensures)
+ensured : (c : tie.After-same Inv-loop μ-loop) → Is (now (c .before .before .before .before .before .before .args .v)) (now (c .before .before .before .before .before .before .args .codes)) (c .before .before .before .before .before .before .args .width) (c .before .before .before .loop .k) ≡ c .same .result
+ensured c = ap (sameBytes _) (sym (c .before .part-of .ensures .0)) ∙ sym (c .same .ensures)
 
 loop-holds : tie.Need-loop-holds Inv-loop μ-loop
 unfolding placeAmong
@@ -42,13 +42,13 @@ returns : tie.Need-returns Inv-loop μ-loop
 returns c =
     let l = c .before .before .before .before in
     let a = l .before .before .before .args in
-    sym (first-stop (Is (now (a .v)) (now (a .codes)) (a .width)) (l .loop .k) _ (c .before .before .before .loop-test .taken) (told (c .before) ∙ c .if1 .taken)) ∙ l .loop .inv .2
+    sym (first-stop (Is (now (a .v)) (now (a .codes)) (a .width)) (l .loop .k) _ (c .before .before .before .loop-test .taken) (ensured (c .before) ∙ c .if1 .taken)) ∙ l .loop .inv .2
 
 loop-again : tie.Need-loop-again Inv-loop μ-loop
 loop-again c =
     let l = c .before .before .before .before in
     let a = l .before .before .before .args in
-    (omega arith, l .loop .inv .1, sym (first-more (Is (now (a .v)) (now (a .codes)) (a .width)) (l .loop .k) _ (c .before .before .before .loop-test .taken) (told (c .before) ∙ c .if1 .left)) ∙ l .loop .inv .2)
+    (omega arith, l .loop .inv .1, sym (first-more (Is (now (a .v)) (now (a .codes)) (a .width)) (l .loop .k) _ (c .before .before .before .loop-test .taken) (ensured (c .before) ∙ c .if1 .left)) ∙ l .loop .inv .2)
 
 returns-2 : tie.Need-returns-2 Inv-loop μ-loop
 returns-2 c =

@@ -4,7 +4,7 @@ use lib.Dec.{lit<}
 use Rattle.submission.specs.Opening.{documentLimits}
 use Rattle.submission.proofs.Demand1.{submission-answers}
 use Rattle.submission.proofs.Demand2.{verdict-exactly, checking-order, accepted-exactly, acceptance-writes}
-use Rattle.submission.proofs.Demand3.{tape-told, same-tapes}
+use Rattle.submission.proofs.Demand3.{tape-published, same-tapes, masked-terms-public}
 use Rattle.submission.proofs.Counting.{identifier-with-line, identifier-counts, quiet-call}
 use Rattle.repository.specs.Demands.{Submission-demands}
 use Rattle.repository.proofs.AnswerLaws.{number-carries}
@@ -22,11 +22,16 @@ demands =
       accepted = accepted-exactly;
       writes = acceptance-writes;
       tapes = same-tapes;
-      told = tape-told;
+      published = tape-published;
       line = identifier-with-line;
       counts = identifier-counts;
       quiet = quiet-call;
       number = number-carries;
+      terms = masked-terms-public;
+      writes-here = acceptance-writes documentLimits (lit< tt);
+      tapes-here = same-tapes documentLimits (lit< tt);
+      published-here = tape-published documentLimits (lit< tt);
+      counts-here = identifier-counts documentLimits (lit< tt);
     }
 
 pack-requires : tie.Need-pack-requires

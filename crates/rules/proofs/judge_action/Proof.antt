@@ -2,7 +2,7 @@
 use mathlib.Core.Path.{_≡_, sym, ap, _∙_}
 use denote.Ref.{now}
 use Rattle.actions.specs.Actions.{actionOf}
-use Rattle.rules.specs.Verdicts.{noAction}
+use Rattle.rules.specs.Verdicts.{actionWrong}
 use Rattle.rules.specs.Findings.{firstBroken, fromRule}
 use Rattle.rules.specs.Rules.{actionIn, rulesOf, judgedFrom, judgedBy}
 use borrow.Author.Needs.{needs}
@@ -15,8 +15,8 @@ read c = sym (c .read-action .ensures ∙ ap actionOf (c .before .element .ensur
 returns : tie.Need-returns
 unfolding judgedFrom fromRule firstBroken
 returns c =
-    let told = c .before .enum-told .given .1 in
-    rw (read (c .before .before .before) ∙ told) (c .judged-by .ensures ∙ ap (judgedBy noAction) told)
+    let ensured = c .before .enum-told .given .1 in
+    rw (read (c .before .before .before) ∙ ensured) (c .judged-by .ensures ∙ ap (judgedBy actionWrong) ensured)
 
 returns-2 : tie.Need-returns-2
 unfolding judgedFrom rulesOf fromRule firstBroken

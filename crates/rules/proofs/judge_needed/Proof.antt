@@ -1,6 +1,6 @@
 -- `rules::judge_needed` meets its contract. Assumes nothing.
 use mathlib.Core.Path.{refl, _∙_}
-use Rattle.rules.specs.Verdicts.{neededMissing}
+use Rattle.rules.specs.Verdicts.{elementMissing}
 use Rattle.rules.specs.Findings.{findingOf, fromRule}
 use Rattle.rules.specs.Rules.{rulesOf}
 use Rattle.rules.proofs.FindingLaws.{afterRule}
@@ -11,11 +11,11 @@ use Rattle.rules.proofs.judge_needed.Tie as tie
 
 returns : tie.Need-returns
 unfolding rulesOf findingOf
-returns c = c .judged-by .ensures ∙ check-stops neededMissing _ _ refl (c .before .before .before .lowest-fault .ensures) (c .before .enum-told .given .1)
+returns c = c .judged-by .ensures ∙ check-stops elementMissing _ _ refl (c .before .before .before .lowest-fault .ensures) (c .before .enum-told .given .1)
 
 returns-2 : tie.Need-returns-2
 unfolding rulesOf findingOf fromRule afterRule
-returns-2 c = c .judge-taken .ensures ∙ check-on neededMissing _ _ _ refl (c .before .before .before .before .lowest-fault .ensures) (c .before .before .needed .given .1)
+returns-2 c = c .judge-taken .ensures ∙ check-on elementMissing _ _ _ refl (c .before .before .before .before .lowest-fault .ensures) (c .before .before .needed .given .1)
 
 pub judge-needed-spec : {M : Type 1} → statement M
 judge-needed-spec =

@@ -8,11 +8,11 @@ use Rattle.rules.proofs.judge_price.Tie as tie
 
 returns : tie.Need-returns
 unfolding judgedFrom rulesOf fromRule firstBroken
-returns c = rw (sym (c .before .is-price-too-long .ensures) ∙ c .if1 .taken)
+returns c = rw (sym (c .before .has-long-price .ensures) ∙ c .if1 .taken)
 
 returns-2 : tie.Need-returns-2
 unfolding judgedFrom rulesOf fromRule firstBroken
-returns-2 c = rw (sym (c .before .before .is-price-too-long .ensures) ∙ c .before .if1 .left) (c .judge-order .ensures)
+returns-2 c = rw (sym (c .before .before .has-long-price .ensures) ∙ c .before .if1 .left) (c .judge-order .ensures)
 
 pub judge-price-spec : {M : Type 1} → statement M
 judge-price-spec = tie.close (tie.spec (λ c κs. search needs) returns (λ c κs. search needs) returns-2)

@@ -1,6 +1,6 @@
 -- `rules::judge_taken` meets its contract. Assumes nothing.
 use mathlib.Core.Path.{refl, _∙_}
-use Rattle.rules.specs.Verdicts.{notTaken}
+use Rattle.rules.specs.Verdicts.{elementNotTaken}
 use Rattle.rules.specs.Findings.{findingOf, fromRule}
 use Rattle.rules.specs.Rules.{rulesOf}
 use Rattle.rules.proofs.FindingLaws.{afterRule}
@@ -11,11 +11,11 @@ use Rattle.rules.proofs.judge_taken.Tie as tie
 
 returns : tie.Need-returns
 unfolding rulesOf findingOf
-returns c = c .judged-by .ensures ∙ check-stops notTaken _ _ refl (c .before .before .before .lowest-not-taken .ensures) (c .before .enum-told .given .1)
+returns c = c .judged-by .ensures ∙ check-stops elementNotTaken _ _ refl (c .before .before .before .lowest-not-taken .ensures) (c .before .enum-told .given .1)
 
 returns-2 : tie.Need-returns-2
 unfolding rulesOf findingOf fromRule afterRule
-returns-2 c = c .judge-forms .ensures ∙ check-on notTaken _ _ _ refl (c .before .before .before .before .lowest-not-taken .ensures) (c .before .before .taken .given .1)
+returns-2 c = c .judge-forms .ensures ∙ check-on elementNotTaken _ _ _ refl (c .before .before .before .before .lowest-not-taken .ensures) (c .before .before .taken .given .1)
 
 pub judge-taken-spec : {M : Type 1} → statement M
 judge-taken-spec =

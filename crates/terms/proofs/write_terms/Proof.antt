@@ -11,12 +11,14 @@ returns c =
     let third = c .before .before .before .before in
     let second = third .before .before .before .before in
     let first = second .before .before .before .before in
-    let start = first .before .before .before .before .before .before .before in
-    (terms-written _ _ _ (start .pre .0)
-    (then-group _ _ _ _ (first .before .before .write-dates .ensures)
-    (then-group _ _ _ _ (second .before .before .write-truths .ensures)
-    (then-group _ _ _ _ (third .before .before .write-quote .ensures)
-    (c .before .before .write-notional .ensures)))), terms-public)
+    let start = first .before .before .before .before .before .before .before in (
+      terms-written _ _ _ (start .pre .0)
+          (then-group _ _ _ _ (first .before .before .write-dates .ensures)
+          (then-group _ _ _ _ (second .before .before .write-truths .ensures)
+          (then-group _ _ _ _ (third .before .before .write-quote .ensures)
+          (c .before .before .write-notional .ensures)))),
+      terms-public,
+    )
 
 pub write-terms-spec : {M : Type 1} → statement M
 write-terms-spec =

@@ -11,8 +11,8 @@ use Rattle.actions.proofs.matrix.has_tick.Tie as tie
 returns : tie.Need-returns
 unfolding numbers tick text
 returns c =
-    let row = c .before .row-of .ensures in
-    table-at tick (noEvent + 1) (c .before .row-of .result .place) (c .before .before .args .a) (c .before .before .args .column) false (row .0) (row .1) (search needs)
+    let row = c .before .columns-of .ensures in
+    table-at tick (noEvent + 1) (c .before .columns-of .result .place) (c .before .before .args .a) (c .before .before .args .column) false (row .0) (row .1) (search needs)
 
 pub has-tick-spec : {M : Type 1} → statement M
 has-tick-spec =

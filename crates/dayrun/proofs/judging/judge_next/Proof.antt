@@ -19,7 +19,7 @@ use Rattle.day.specs.Frame.{lengthSize, frameOf, longestFrame, WithinInput}
 use Rattle.dayrun.specs.Day.{Step, answered, stepOn}
 use Rattle.dayrun.specs.Progress.{dayOf, stepAt, progressAfter}
 use Rattle.dayrun.proofs.DayLaws.{step-on, judged-at-once}
-use Rattle.dayrun.proofs.ProgressLaws.{told-progress, told-line, unmoved, one-further, no-further}
+use Rattle.dayrun.proofs.ProgressLaws.{progress-is, line-is, unmoved, one-further, no-further}
 use Rattle.dayrun.proofs.judging.judge_next.Statement.{statement}
 use Rattle.dayrun.proofs.judging.judge_next.Tie as tie
 
@@ -74,14 +74,14 @@ returns c =
     let judged : Bytes → Submitted = λ x. submitted documentLimits (lentOf (now (a .ledger)) (now (a .tape))) x in
     let sent : now (m .part-of .result) ≡ part (rest f) lengthSize size =
     m .part-of .ensures .0 ∙ ap (λ (xs : Bytes). part xs lengthSize size) (all-lent (now (a .input)) (a .p .at)) in
-    let told : stepAt (lentOf (now (a .ledger)) (now (a .tape))) (now (a .input)) (a .p) ≡ answered (dayOf (lentOf (now (a .ledger)) (now (a .tape))) (a .p)) size (judged (part (rest f) lengthSize size)) =
+    let ensured : stepAt (lentOf (now (a .ledger)) (now (a .tape))) (now (a .input)) (a .p) ≡ answered (dayOf (lentOf (now (a .ledger)) (now (a .tape))) (a .p)) size (judged (part (rest f) lengthSize size)) =
     step-on _ (rest f) (Message size) (sym (front f) ∙ n .n .given .1) in
     let same : k .submit .result ≡ submissionAnswer (judged (part (rest f) lengthSize size)) = k .submit .ensures .0 ∙ ap (λ (x : Bytes). submissionAnswer (judged x)) sent in (
-      r .report .ensures .0 ∙ told-progress _ (rest f) (a .p) size _ told _ same,
+      r .report .ensures .0 ∙ progress-is _ (rest f) (a .p) size _ ensured _ same,
       (
-        r .report .ensures .1 .0 ∙ ap (splice (now (a .out)) (a .p .used)) (told-line _ (rest f) (a .p) size _ told _ same),
+        r .report .ensures .1 .0 ∙ ap (splice (now (a .out)) (a .p .used)) (line-is _ (rest f) (a .p) size _ ensured _ same),
         (
-          k .submit .ensures .1 ∙ ap (λ (x : Bytes). judged x .lent) sent ∙ ap (λ (x : Step). x .after .lent) (sym told),
+          k .submit .ensures .1 ∙ ap (λ (x : Bytes). judged x .lent) sent ∙ ap (λ (x : Step). x .after .lent) (sym ensured),
           (one-further _ (lengthSize + size) (a .p) _ (message-fits n) (omega arith) (start f .pre .1 .1 .1) (r .report .ensures .1 .1), judged-at-once),
         ),
       ),
@@ -95,13 +95,13 @@ returns-2 c =
     let f = n .before .before in
     let a = start f .args in
     let size = n .n2 .given .0 .0 in
-    let told : stepAt (lentOf (now (a .ledger)) (now (a .tape))) (now (a .input)) (a .p) ≡ answered (dayOf (lentOf (now (a .ledger)) (now (a .tape))) (a .p)) size (refused (layoutWrong, 0) (lentOf (now (a .ledger)) (now (a .tape)))) =
+    let ensured : stepAt (lentOf (now (a .ledger)) (now (a .tape))) (now (a .input)) (a .p) ≡ answered (dayOf (lentOf (now (a .ledger)) (now (a .tape))) (a .p)) size (refused (layoutWrong, 0) (lentOf (now (a .ledger)) (now (a .tape)))) =
     step-on _ (rest f) (Overlong size) (sym (front f) ∙ n .n2 .given .1) in (
-      r .report2 .ensures .0 ∙ told-progress _ (rest f) (a .p) size _ told _ (k .refusal .ensures),
+      r .report2 .ensures .0 ∙ progress-is _ (rest f) (a .p) size _ ensured _ (k .refusal .ensures),
       (
-        r .report2 .ensures .1 .0 ∙ ap (splice (now (a .out)) (a .p .used)) (told-line _ (rest f) (a .p) size _ told _ (k .refusal .ensures)),
+        r .report2 .ensures .1 .0 ∙ ap (splice (now (a .out)) (a .p .used)) (line-is _ (rest f) (a .p) size _ ensured _ (k .refusal .ensures)),
         (
-          ap (λ (x : Step). x .after .lent) (sym told),
+          ap (λ (x : Step). x .after .lent) (sym ensured),
           (one-further _ (lengthSize + size) (a .p) _ (overlong-fits n) (omega arith) (start f .pre .1 .1 .1) (r .report2 .ensures .1 .1), judged-at-once),
         ),
       ),
@@ -111,14 +111,14 @@ returns-3 : tie.Need-returns-3
 returns-3 c =
     let f = c .before .before in
     let a = start f .args in
-    let told : stepAt (lentOf (now (a .ledger)) (now (a .tape))) (now (a .input)) (a .p) ≡ stepOn (dayOf (lentOf (now (a .ledger)) (now (a .tape))) (a .p)) (rest f) Partial =
+    let ensured : stepAt (lentOf (now (a .ledger)) (now (a .tape))) (now (a .input)) (a .p) ≡ stepOn (dayOf (lentOf (now (a .ledger)) (now (a .tape))) (a .p)) (rest f) Partial =
     step-on _ (rest f) Partial (sym (front f) ∙ c .enum-told .given .1) in
     let short : length (rest f) < longestFrame = subst (WithinInput (rest f)) (c .enum-told .given .1) (fits f) in (
-      unmoved (lentOf (now (a .ledger)) (now (a .tape))) (rest f) (a .p) ∙ ap (progressAfter (a .p)) (sym told),
+      unmoved (lentOf (now (a .ledger)) (now (a .tape))) (rest f) (a .p) ∙ ap (progressAfter (a .p)) (sym ensured),
       (
-        sym (splice-none (now (a .out)) (a .p .used)) ∙ ap (λ (x : Step). splice (now (a .out)) (a .p .used) (x .line)) (sym told),
+        sym (splice-none (now (a .out)) (a .p .used)) ∙ ap (λ (x : Step). splice (now (a .out)) (a .p .used) (x .line)) (sym ensured),
         (
-          ap (λ (x : Step). x .after .lent) (sym told),
+          ap (λ (x : Step). x .after .lent) (sym ensured),
           (no-further _ (a .p) (search needs) (search needs) (search needs) (omega (arith, short, length-drop (a .p .at) (now (a .input)))), judged-at-once),
         ),
       ),

@@ -38,13 +38,13 @@ returns : tie.Need-returns Inv-loop μ-loop
 returns c =
     let j = c .before .before .before .before .before .before .before .before in
     let l = j .before .before .before .before .before .before .before .loop in
-    let told = j .judge-next .ensures in
-    let s = told .1 .1 .1 .0 in
+    let ensured = j .judge-next .ensures in
+    let s = ensured .1 .1 .1 .0 in
     let stays = s .stays (c .if2 .taken) in (
-      judged-none (l .inv .4) (told .0) (told .1 .1 .0) (told .1 .0) (room j) (c .if2 .taken),
+      judged-none (l .inv .4) (ensured .0) (ensured .1 .1 .0) (ensured .1 .0) (room j) (c .if2 .taken),
       (
         record { passed = s .within .passed; waiting = omega (arith, stays .1, l .inv .3 .waiting); lines = s .within .lines; messages = s .within .messages },
-        (λ _ _. (none-left (l .inv .4) (told .0) (told .1 .1 .0) (c .if2 .taken), omega (arith, stays .0, c .if2 .taken)), nothing-lost),
+        (λ _ _. (none-left (l .inv .4) (ensured .0) (ensured .1 .1 .0) (c .if2 .taken), omega (arith, stays .0, c .if2 .taken)), nothing-lost),
       ),
     )
 
@@ -61,14 +61,14 @@ loop-less c =
 loop-again : tie.Need-loop-again Inv-loop μ-loop
 loop-again c =
     let e = c .before .before in
-    let told = e .before .before .before .before .before .before .before .before .judge-next .ensures in
+    let ensured = e .before .before .before .before .before .before .before .before .judge-next .ensures in
     let l = e .before .before .before .before .before .before .before .before .before .before .before .before .before .before .before .loop in
     let w = c .write-enough .ensures in (
       omega (arith, l .inv .0, e .before .before .before .before .before .before .before .ledger .given),
       omega (arith, l .inv .1, e .before .before .before .before .before .tape .given),
       omega (arith, l .inv .2, e .before .before .before .out .given),
-      written-within _ _ _ _ _ _ w (leb-false _ _) (told .1 .1 .1 .0 .within),
-      judged-more (l .inv .4) (told .0) (told .1 .1 .0) (told .1 .0) (room (e .before .before .before .before .before .before .before .before)) _ _ (forward e) w,
+      written-within _ _ _ _ _ _ w (leb-false _ _) (ensured .1 .1 .1 .0 .within),
+      judged-more (l .inv .4) (ensured .0) (ensured .1 .1 .0) (ensured .1 .0) (room (e .before .before .before .before .before .before .before .before)) _ _ (forward e) w,
     )
 
 returns-2 : tie.Need-returns-2 Inv-loop μ-loop

@@ -55,29 +55,29 @@ start6 c = start5 (c .before .before .before)
 abbrev start7 : tie.Else7 → tie.Start
 start7 c = start6 (c .before .before)
 
--- what each test told
-told1 : (c : tie.Else1) → leb shortestLedger (length (l (start1 c))) ≡ true
-told1 c = le-leb _ _ (c .if1 .left)
+-- what each test ensured
+ensured1 : (c : tie.Else1) → leb shortestLedger (length (l (start1 c))) ≡ true
+ensured1 c = le-leb _ _ (c .if1 .left)
 
-told2 : (c : tie.Else2) → eqb (firstRow (l (start2 c))) headerSize ≡ true
+ensured2 : (c : tie.Else2) → eqb (firstRow (l (start2 c))) headerSize ≡ true
 unfolding firstRow
-told2 c = eq-eqb _ _ (sym (c .before .read-at .ensures .0) ∙ c .if2 .left)
+ensured2 c = eq-eqb _ _ (sym (c .before .read-at .ensures .0) ∙ c .if2 .left)
 
-told3 : (c : tie.Else3) → leb 1 (nextIdentifier (l (start3 c))) ≡ true
-told3 c = rw (next-is (start3 c)) (le-leb _ _ (c .if3 .left))
+ensured3 : (c : tie.Else3) → leb 1 (nextIdentifier (l (start3 c))) ≡ true
+ensured3 c = rw (next-is (start3 c)) (le-leb _ _ (c .if3 .left))
 
-told4 : (c : tie.Else4) → leb (nextIdentifier (l (start4 c))) identifierLimit ≡ true
-told4 c = rw (next-is (start4 c)) (le-leb _ _ (c .if4 .left))
+ensured4 : (c : tie.Else4) → leb (nextIdentifier (l (start4 c))) identifierLimit ≡ true
+ensured4 c = rw (next-is (start4 c)) (le-leb _ _ (c .if4 .left))
 
-told5 : (c : tie.Else5) → eqb (sizeOfRows (l (start5 c))) rowSize ≡ true
+ensured5 : (c : tie.Else5) → eqb (sizeOfRows (l (start5 c))) rowSize ≡ true
 unfolding sizeOfRows
-told5 c = eq-eqb _ _ (sym (c .before .read-at2 .ensures .0) ∙ c .if5 .left)
+ensured5 c = eq-eqb _ _ (sym (c .before .read-at2 .ensures .0) ∙ c .if5 .left)
 
-told6 : (c : tie.Else6) → eqb (capacityIn (l (start6 c))) (capacityFor (start6 c .args .largest) (length (l (start6 c)))) ≡ true
-told6 c = eq-eqb _ _ (capacity-is (start6 c) ∙ c .if6 .left ∙ c .before .before .capacity-for .ensures)
+ensured6 : (c : tie.Else6) → eqb (capacityIn (l (start6 c))) (capacityFor (start6 c .args .largest) (length (l (start6 c)))) ≡ true
+ensured6 c = eq-eqb _ _ (capacity-is (start6 c) ∙ c .if6 .left ∙ c .before .before .capacity-for .ensures)
 
-told7 : (c : tie.Else7) → leb (rowsInUse (l (start7 c))) (capacityIn (l (start7 c))) ≡ true
-told7 c = rw (rows-is (start7 c), capacity-is (start7 c)) (le-leb _ _ (c .if7 .left))
+ensured7 : (c : tie.Else7) → leb (rowsInUse (l (start7 c))) (capacityIn (l (start7 c))) ≡ true
+ensured7 c = rw (rows-is (start7 c), capacity-is (start7 c)) (le-leb _ _ (c .if7 .left))
 
 returns : tie.Need-returns
 unfolding headerRight
@@ -87,7 +87,7 @@ returns-2 : tie.Need-returns-2
 unfolding headerRight firstRow
 returns-2 c =
     let c1 = c .before .before in
-    rw (told1 c1, ne-eqb _ _ (λ e. c .if2 .taken (c .before .read-at .ensures .0 ∙ e)))
+    rw (ensured1 c1, ne-eqb _ _ (λ e. c .if2 .taken (c .before .read-at .ensures .0 ∙ e)))
 
 returns-3 : tie.Need-returns-3
 unfolding headerRight
@@ -95,7 +95,7 @@ returns-3 c =
     let c2 = c .before .before in
     let c1 = c2 .before .before in
     let start = start2 c2 in
-    rw (told1 c1, told2 c2, next-is start, lt-leb _ _ (c .if3 .taken))
+    rw (ensured1 c1, ensured2 c2, next-is start, lt-leb _ _ (c .if3 .taken))
 
 returns-4 : tie.Need-returns-4
 unfolding headerRight
@@ -104,7 +104,7 @@ returns-4 c =
     let c2 = c3 .before .before in
     let c1 = c2 .before .before in
     let start = start3 c3 in
-    rw (told1 c1, told2 c2, told3 c3, next-is start, lt-leb _ _ (c .if4 .taken))
+    rw (ensured1 c1, ensured2 c2, ensured3 c3, next-is start, lt-leb _ _ (c .if4 .taken))
 
 returns-5 : tie.Need-returns-5
 unfolding headerRight sizeOfRows
@@ -113,7 +113,7 @@ returns-5 c =
     let c3 = c4 .before .before in
     let c2 = c3 .before .before in
     let c1 = c2 .before .before in
-    rw (told1 c1, told2 c2, told3 c3, told4 c4, ne-eqb _ _ (λ e. c .if5 .taken (c .before .read-at2 .ensures .0 ∙ e)))
+    rw (ensured1 c1, ensured2 c2, ensured3 c3, ensured4 c4, ne-eqb _ _ (λ e. c .if5 .taken (c .before .read-at2 .ensures .0 ∙ e)))
 
 returns-6 : tie.Need-returns-6
 unfolding headerRight
@@ -124,7 +124,7 @@ returns-6 c =
     let c2 = c3 .before .before in
     let c1 = c2 .before .before in
     let start = start5 c5 in
-    rw (told1 c1, told2 c2, told3 c3, told4 c4, told5 c5, ne-eqb _ _ (λ e. c .if6 .taken (sym (capacity-is start) ∙ e ∙ sym (c .before .before .capacity-for .ensures))))
+    rw (ensured1 c1, ensured2 c2, ensured3 c3, ensured4 c4, ensured5 c5, ne-eqb _ _ (λ e. c .if6 .taken (sym (capacity-is start) ∙ e ∙ sym (c .before .before .capacity-for .ensures))))
 
 returns-7 : tie.Need-returns-7
 unfolding headerRight
@@ -136,7 +136,7 @@ returns-7 c =
     let c2 = c3 .before .before in
     let c1 = c2 .before .before in
     let start = start6 c6 in
-    rw (told1 c1, told2 c2, told3 c3, told4 c4, told5 c5, told6 c6, rows-is start, capacity-is start, lt-leb _ _ (c .if7 .taken))
+    rw (ensured1 c1, ensured2 c2, ensured3 c3, ensured4 c4, ensured5 c5, ensured6 c6, rows-is start, capacity-is start, lt-leb _ _ (c .if7 .taken))
 
 returns-8 : tie.Need-returns-8
 unfolding headerRight
@@ -148,7 +148,7 @@ returns-8 c =
     let c3 = c4 .before .before in
     let c2 = c3 .before .before in
     let c1 = c2 .before .before in
-    rw (told1 c1, told2 c2, told3 c3, told4 c4, told5 c5, told6 c6, told7 c7) (c .are-caps .ensures ∙ sym (ap areCaps (caps-are (start7 c7))))
+    rw (ensured1 c1, ensured2 c2, ensured3 c3, ensured4 c4, ensured5 c5, ensured6 c6, ensured7 c7) (c .are-caps .ensures ∙ sym (ap areCaps (caps-are (start7 c7))))
 
 pub is-right-spec : {M : Type 1} → statement M
 is-right-spec =

@@ -15,21 +15,21 @@ use Rattle.ledger.specs.Rows.{rowAt, utiLength, hasBytes, holdsUti, plac
 use Rattle.ledger.proofs.search.find_row.Statement.{statement}
 use Rattle.ledger.proofs.search.find_row.Tie as tie
 
-abbrev Holds : Bytes → Bytes → ℕ → Bool
-Holds l uti k = holdsUti uti (rowAt l k)
+abbrev holdsAt : Bytes → Bytes → ℕ → Bool
+holdsAt l uti k = holdsUti uti (rowAt l k)
 
 abbrev Inv-loop : tie.InvT-loop
-Inv-loop l rows uti n k₀ k = (k ≤ rows) × (firstFrom (Holds l uti) k (rows - k) ≡ placeIn l rows uti)
+Inv-loop l rows uti n k₀ k = (k ≤ rows) × (firstFrom (holdsAt l uti) k (rows - k) ≡ placeIn l rows uti)
 
 abbrev μ-loop : tie.MeasureT-loop
 μ-loop l rows uti n k₀ k = rows - k
 
 -- what the two tests of row k tell of it
-other-length : (l uti : Bytes) (k : ℕ) → (utiLength (rowAt l k) ≡ length uti → ⊥) → Holds l uti k ≡ false
+other-length : (l uti : Bytes) (k : ℕ) → (utiLength (rowAt l k) ≡ length uti → ⊥) → holdsAt l uti k ≡ false
 unfolding holdsUti
 other-length l uti k h = rw (ne-eqb _ _ h)
 
-by-bytes : (l uti : Bytes) (k : ℕ) (t : Bool) → utiLength (rowAt l k) ≡ length uti → hasBytes uti (rowAt l k) ≡ t → Holds l uti k ≡ t
+by-bytes : (l uti : Bytes) (k : ℕ) (t : Bool) → utiLength (rowAt l k) ≡ length uti → hasBytes uti (rowAt l k) ≡ t → holdsAt l uti k ≡ t
 unfolding holdsUti
 by-bytes l uti k t h e = rw (eq-eqb _ _ h) e
 
@@ -43,7 +43,7 @@ loop-again c =
     let a = c .before .before .before .before .before .before .args in
     let h : l .k < a .rows = omega arith in
     let other : utiLength (rowAt (now (a .l)) (l .k)) ≡ length (now (a .uti)) → ⊥ = λ e. c .if1 .taken (c .before .length-at .ensures ∙ e) in
-    (omega arith, sym (first-more (Holds (now (a .l)) (now (a .uti))) (l .k) (a .rows) h (other-length (now (a .l)) (now (a .uti)) (l .k) other)) ∙ l .inv .1)
+    (omega arith, sym (first-more (holdsAt (now (a .l)) (now (a .uti))) (l .k) (a .rows) h (other-length (now (a .l)) (now (a .uti)) (l .k) other)) ∙ l .inv .1)
 
 -- the length of row k is the UTI's
 same-length : (c : tie.After-has-bytes Inv-loop μ-loop) → utiLength (rowAt (now (c .before .before .before .before .before .before .before .args .l)) (c .before .before .before .before .loop .k)) ≡ length (now (c .before .before .before .before .before .before .before .args .uti))
@@ -55,7 +55,7 @@ returns c =
     let a = c .before .before .before .before .before .before .before .before .args in
     let h : l .k < a .rows = omega arith in
     let found = by-bytes (now (a .l)) (now (a .uti)) (l .k) true (same-length (c .before)) (sym (c .before .has-bytes .ensures) ∙ c .if2 .taken) in
-    (sym (first-stop (Holds (now (a .l)) (now (a .uti))) (l .k) (a .rows) h found) ∙ l .inv .1, l .inv .0)
+    (sym (first-stop (holdsAt (now (a .l)) (now (a .uti))) (l .k) (a .rows) h found) ∙ l .inv .1, l .inv .0)
 
 loop-again-2 : tie.Need-loop-again-2 Inv-loop μ-loop
 loop-again-2 c =
@@ -63,13 +63,13 @@ loop-again-2 c =
     let a = c .before .before .before .before .before .before .before .before .args in
     let h : l .k < a .rows = omega arith in
     let other = by-bytes (now (a .l)) (now (a .uti)) (l .k) false (same-length (c .before)) (sym (c .before .has-bytes .ensures) ∙ c .if2 .left) in
-    (omega arith, sym (first-more (Holds (now (a .l)) (now (a .uti))) (l .k) (a .rows) h other) ∙ l .inv .1)
+    (omega arith, sym (first-more (holdsAt (now (a .l)) (now (a .uti))) (l .k) (a .rows) h other) ∙ l .inv .1)
 
 returns-2 : tie.Need-returns-2 Inv-loop μ-loop
 returns-2 c =
     let l = c .before .loop in
     let a = c .before .before .before .before .args in
-    (sym (first-end (Holds (now (a .l)) (now (a .uti))) (l .k) _ (c .loop-test .left)) ∙ l .inv .1, l .inv .0)
+    (sym (first-end (holdsAt (now (a .l)) (now (a .uti))) (l .k) _ (c .loop-test .left)) ∙ l .inv .1, l .inv .0)
 
 pub find-row-spec : {M : Type 1} → statement M
 find-row-spec =

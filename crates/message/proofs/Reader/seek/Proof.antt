@@ -12,7 +12,7 @@ use denote.Signature.{namedLft}
 use denote.Steps.{only}
 use Rattle.message.specs.declared.Reader.{Reader}
 use Rattle.message.proofs.Walk.{URA, id⊢, Model, Heap, Lfts, Shares, Running, GhostRules, ‵, _⊛_, _$_, !, by, move, drop, use1, split, fsplit, rewrite, agg, look, init, stop, from, and-then, no-more, assigns, land, returns, alloc1, alloc0, params1, pass1, pass0, free0, rules, Params, Case, Exits, ends, shown, Walk, reaches, calls, local, field-of, gone}
-use Rattle.message.proofs.Held.{Held, Next, bytes, Own, reader, Lending, Fits, held, code as number, reader-fits, lends, moves, lowered}
+use Rattle.message.proofs.Held.{Held, Next, bytes, Own, reader, Lending, WellTyped, held, code as number, reader-fits, lends, moves, lowered}
 use Rattle.message.proofs.entries.entry_of as entry_of
 use Rattle.message.proofs.entries.entry_of.Met as answered
 use Rattle.message.proofs.Reader.seek as seek
@@ -35,7 +35,7 @@ module _ {M : Type 1} (𝓤 : URA M) (H : Heap 𝓤) (𝓜 : Model 𝓤 H) (𝓖
 
   walk : Walk 𝓤 H 𝓜 𝓖 𝓡 seek.ended (seek.clauses 𝓤 H) code.env code.function params
   walk κs qs _ (d, (c, _)) _ (is, (is-c, _)) =
-      let typed : Fits d = reader-fits 𝓤 H 𝓜 𝓖 (namedLft 1 0 tt κs) d _ is .0 in
+      let typed : WellTyped d = reader-fits 𝓤 H 𝓜 𝓖 (namedLft 1 0 tt κs) d _ is .0 in
       alloc1 ! (λ l₀. alloc1 ! (λ l₁. alloc1 ! (λ l₂. alloc1 ! (λ l₃. alloc1 ! (λ l₄. alloc1 ! (λ l₅. alloc1 ! (λ l₆. alloc0 ! $ params1 ! $ pass1 ! (init ! 10 refl typed) $ pass1 ! (init ! 8 refl (tt, record { fits = is-c .1 })) $ pass0 ! $
       -- [_6; …; _5; …; _4; …; at; …; code; …; self; …; room for the answer; …; the tokens; the reader and the code, twice]
       assigns ! (field-of ! 10 0 refl refl refl) (from ! (stop !)) (init ! 4 refl (tt, typed .1 .0)) $

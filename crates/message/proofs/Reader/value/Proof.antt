@@ -8,7 +8,7 @@ use denote.Signature.{namedLft}
 use Rattle.octets.specs.Bytes.{Bytes}
 use Rattle.message.specs.declared.Reader.{Reader}
 use Rattle.message.proofs.Walk.{URA, id⊢, Model, Heap, Lfts, Shares, Running, GhostRules, ‵, _⊛_, _$_, !, by, move, drop, use1, split, fsplit, look, init, stop, from, and-then, no-more, assigns, land, returns, alloc1, alloc0, params1, pass1, pass0, free0, rules, Params, Case, Exits, ends, shown, Walk, reaches, calls, local, field-of, gone}
-use Rattle.message.proofs.Held.{Held, Valued, bytes, Own, Lending, Fits, held, lent-fits, reader-fits, lends, lowered}
+use Rattle.message.proofs.Held.{Held, Valued, bytes, Own, Lending, WellTyped, held, lent-fits, reader-fits, lends, lowered}
 use Rattle.message.proofs.entries.value_at as value_at
 use Rattle.message.proofs.entries.value_at.Met as answered
 use Rattle.message.proofs.Reader.value as value
@@ -31,7 +31,7 @@ module _ {M : Type 1} (𝓤 : URA M) (H : Heap 𝓤) (𝓜 : Model 𝓤 H) (𝓖
 
   walk : Walk 𝓤 H 𝓜 𝓖 𝓡 value.ended (value.clauses 𝓤 H) code.env code.function params
   walk κs qs _ (d, _) _ (is, _) =
-      let typed : Fits d = reader-fits 𝓤 H 𝓜 𝓖 (namedLft 1 0 tt κs) d _ is .0 in
+      let typed : WellTyped d = reader-fits 𝓤 H 𝓜 𝓖 (namedLft 1 0 tt κs) d _ is .0 in
       alloc1 ! (λ l₀. alloc1 ! (λ l₁. alloc1 ! (λ l₂. alloc1 ! (λ l₃. alloc0 ! $ params1 ! $ pass1 ! (init ! 4 refl typed) $ pass0 ! $
       -- [_3; …; _2; …; self; …; room for the answer; …; the tokens; the reader, twice]
       assigns ! (field-of ! 4 0 refl refl refl) (from ! (stop !)) (init ! 2 refl (tt, typed .1 .0)) $

@@ -30,8 +30,7 @@ returns c =
     let h : a .k < entries (now (a .m)) = omega (arith, n) in
     let from = c .before .before .u16-inside .ensures .0 in
     let at = c .before .before .u16-inside .result in
-    let end = c .before .end-of .result in
-    (
+    let end = c .before .end-of .result in (
       rw (lt-ltb _ _ h) (ap₂ (part (now (a .m))) from (ap₂ _-_ (c .before .end-of .ensures) from)),
       record {
         from = at;

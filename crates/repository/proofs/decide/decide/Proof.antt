@@ -6,7 +6,7 @@ use Rattle.rules.specs.Findings.{brokenIf, firstBroken, findingOf, fromRule}
 use Rattle.ledger.specs.declared.header.Header.{Header}
 use Rattle.ledger.specs.declared.header.HeaderCheck.the-variants as check
 use Rattle.ledger.specs.Header.{headerRight, headerOf}
-use Rattle.ledger.proofs.RightHeader.{header-told, used-fit}
+use Rattle.ledger.proofs.RightHeader.{header-checked, used-fit}
 use Rattle.submission.specs.Verdicts.{ledgerWrong}
 use Rattle.submission.specs.Submission.{submissionRules}
 use Rattle.repository.specs.Decision.{decisionFrom}
@@ -22,12 +22,12 @@ abbrev header : tie.After-known-told → Header
 header c = c .before .header .given .0 .0
 
 known : (c : tie.After-known-told) → (headerRight (s1 c .args .largest) (now (s1 c .args .l)) ≡ true) × (header c ≡ headerOf (now (s1 c .args .l)))
-known c = header-told _ _ (check.Value (header c)) (sym (c .before .before .before .read-header .ensures) ∙ c .before .header .given .1)
+known c = header-checked _ _ (check.Value (header c)) (sym (c .before .before .before .read-header .ensures) ∙ c .before .header .given .1)
 
 returns : tie.Need-returns
 unfolding submissionRules findingOf
 returns c =
-    let wrong = header-told _ _ check.Fault (sym (c .before .before .read-header .ensures) ∙ c .enum-told .given .1) in
+    let wrong = header-checked _ _ check.Fault (sym (c .before .before .read-header .ensures) ∙ c .enum-told .given .1) in
     test-stops ledgerWrong _ _ _ refl (ap (λ b. brokenIf (not b)) wrong) ∙ from-first _ _ _
 
 returns-2 : tie.Need-returns-2

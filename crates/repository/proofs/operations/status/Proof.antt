@@ -10,7 +10,7 @@ use Rattle.ledger.specs.declared.header.Header.{Header}
 use Rattle.ledger.specs.declared.header.HeaderCheck.the-variants as check
 use Rattle.ledger.specs.Header.{nextIdentifier, headerRight, headerOf}
 use Rattle.ledger.specs.Rows.{swapIn}
-use Rattle.ledger.proofs.RightHeader.{header-told, used-fit}
+use Rattle.ledger.proofs.RightHeader.{header-checked, used-fit}
 use Rattle.submission.specs.Status.{statusRules, asked}
 use Rattle.submission.specs.Submission.{hasWrongRow}
 use Rattle.repository.specs.Decision.{HeaderRead}
@@ -26,7 +26,7 @@ abbrev header : tie.After-known-told → Header
 header c = c .before .header .given .0 .0
 
 right : (c : tie.After-known-told) → (headerRight (s1 c .args .largest) (now (s1 c .args .l)) ≡ true) × (header c ≡ headerOf (now (s1 c .args .l)))
-right c = header-told _ _ (check.Value (header c)) (sym (c .before .before .before .read-header .ensures) ∙ c .before .header .given .1)
+right c = header-checked _ _ (check.Value (header c)) (sym (c .before .before .before .read-header .ensures) ∙ c .before .header .given .1)
 
 abbrev k1 : tie.Else1 → tie.After-known-told
 k1 c = c .before .before
@@ -36,7 +36,7 @@ formed c = sym (c .before .has-form .ensures) ∙ not-false _ (c .if1 .left)
 
 returns : tie.Need-returns
 unfolding asked statusRules firstBroken
-returns c longest = c .refusal .ensures ∙ rw (header-told _ _ check.Fault (sym (c .before .before .before .read-header .ensures) ∙ c .before .enum-told .given .1))
+returns c longest = c .refusal .ensures ∙ rw (header-checked _ _ check.Fault (sym (c .before .before .before .read-header .ensures) ∙ c .before .enum-told .given .1))
 
 returns-2 : tie.Need-returns-2
 unfolding asked statusRules firstBroken

@@ -7,7 +7,7 @@ use Rattle.submission.specs.Submission.{submitted}
 use Rattle.repository.specs.declared.decide.Decision.{Decision}
 use Rattle.repository.specs.Answers.{limitsOf, submissionAnswer}
 use Rattle.repository.specs.Decision.{decisionAnswer}
-use Rattle.repository.proofs.AcceptanceLaws.{Leaves, decision-answers, decision-writes, fitting}
+use Rattle.repository.proofs.AcceptanceLaws.{Leaves, decision-answers, decision-writes, writable}
 use borrow.Author.Needs.{needs}
 use Rattle.repository.proofs.operations.submit.Statement.{statement}
 use Rattle.repository.proofs.operations.submit.Tie as tie
@@ -36,7 +36,7 @@ apply-requires : tie.Need-apply-requires
 apply-requires c κs =
     let k = c .before .before in
     let d = k .before .before .before in
-    fitting (limits d) (lent d) (now (start d .args .m)) _ (search needs) (sym (d .decide .ensures) ∙ k .before .decision .given .1)
+    writable (limits d) (lent d) (now (start d .args .m)) _ (search needs) (sym (d .decide .ensures) ∙ k .before .decision .given .1)
 
 returns-2 : tie.Need-returns-2
 returns-2 c =

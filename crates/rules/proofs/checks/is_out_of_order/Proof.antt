@@ -2,21 +2,21 @@
 use mathlib.Core.Path.{_≡_, sym, _∙_}
 use borrow.Author.Tests.{not-true, not-false}
 use denote.Ref.{now}
-use Rattle.elements.specs.Codes.{reportingTime, executionTime, effectiveDate, expirationDate, settlementDate}
+use Rattle.elements.specs.Codes.{reportingTimestamp, executionTimestamp, effectiveDate, expirationDate, settlementDate}
 use Rattle.rules.specs.Rules.{elementBefore, outOfOrder}
 use borrow.Author.Needs.{needs}
 use Rattle.rules.proofs.checks.is_out_of_order.Statement.{statement}
 use Rattle.rules.proofs.checks.is_out_of_order.Tie as tie
 
--- what each test told
-told1 : (c : tie.After-is-element-before) → c .is-element-before .result ≡ elementBefore (now (c .before .before .before .before .args .m)) expirationDate effectiveDate
-told1 c = c .is-element-before .ensures
+-- what each test ensured
+ensured1 : (c : tie.After-is-element-before) → c .is-element-before .result ≡ elementBefore (now (c .before .before .before .before .args .m)) expirationDate effectiveDate
+ensured1 c = c .is-element-before .ensures
 
-told2 : (c : tie.After-is-element-before2) → c .is-element-before2 .result ≡ elementBefore (now (c .before .before .before .before .before .before .args .m)) settlementDate expirationDate
-told2 c = c .is-element-before2 .ensures
+ensured2 : (c : tie.After-is-element-before2) → c .is-element-before2 .result ≡ elementBefore (now (c .before .before .before .before .before .before .args .m)) settlementDate expirationDate
+ensured2 c = c .is-element-before2 .ensures
 
-told3 : (c : tie.After-is-element-before3) → c .is-element-before3 .result ≡ elementBefore (now (c .before .before .before .before .before .before .before .before .args .m)) reportingTime executionTime
-told3 c = c .is-element-before3 .ensures
+ensured3 : (c : tie.After-is-element-before3) → c .is-element-before3 .result ≡ elementBefore (now (c .before .before .before .before .before .before .before .before .args .m)) reportingTimestamp executionTimestamp
+ensured3 c = c .is-element-before3 .ensures
 
 returns : tie.Need-returns
 unfolding outOfOrder
@@ -24,15 +24,15 @@ returns c = rw (sym (c .before .is-full .ensures) ∙ not-true _ (c .if1 .taken)
 
 returns-2 : tie.Need-returns-2
 unfolding outOfOrder
-returns-2 c = rw (sym (c .before .before .before .is-full .ensures) ∙ not-false _ (c .before .before .if1 .left), sym (told1 (c .before)) ∙ c .if2 .taken)
+returns-2 c = rw (sym (c .before .before .before .is-full .ensures) ∙ not-false _ (c .before .before .if1 .left), sym (ensured1 (c .before)) ∙ c .if2 .taken)
 
 returns-3 : tie.Need-returns-3
 unfolding outOfOrder
 returns-3 c =
     rw (
       sym (c .before .before .before .before .before .is-full .ensures) ∙ not-false _ (c .before .before .before .before .if1 .left),
-      sym (told1 (c .before .before .before)) ∙ c .before .before .if2 .left,
-      sym (told2 (c .before)) ∙ c .if3 .taken,
+      sym (ensured1 (c .before .before .before)) ∙ c .before .before .if2 .left,
+      sym (ensured2 (c .before)) ∙ c .if3 .taken,
     )
 
 returns-4 : tie.Need-returns-4
@@ -40,10 +40,10 @@ unfolding outOfOrder
 returns-4 c =
     rw (
       sym (c .before .before .before .before .before .before .is-full .ensures) ∙ not-false _ (c .before .before .before .before .before .if1 .left),
-      sym (told1 (c .before .before .before .before)) ∙ c .before .before .before .if2 .left,
-      sym (told2 (c .before .before)) ∙ c .before .if3 .left,
+      sym (ensured1 (c .before .before .before .before)) ∙ c .before .before .before .if2 .left,
+      sym (ensured2 (c .before .before)) ∙ c .before .if3 .left,
     )
-    (told3 c)
+    (ensured3 c)
 
 pub is-out-of-order-spec : {M : Type 1} → statement M
 is-out-of-order-spec =

@@ -46,7 +46,7 @@ unfolding isLei
 returns-4 c =
     let t = tail (c .before .before) in
     rw (sym (c .before .before .before .before .before .run-of .ensures) ∙ not-false _ (c .before .before .before .before .if2 .left), t ∙ not-false _ (c .before .if3 .left))
-    (ap (λ (n : ℕ). eqb n 1) (c .spelled .ensures))
+    (ap (λ (n : ℕ). eqb n 1) (c .remainder-of .ensures))
 
 pub is-lei-spec : {M : Type 1} → statement M
 is-lei-spec =

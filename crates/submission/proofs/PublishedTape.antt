@@ -25,14 +25,14 @@ use Rattle.ledger.proofs.RowFields.{after-identifier, after-terms}
 use Rattle.submission.specs.Opening.{Limits}
 use Rattle.submission.specs.Submission.{swapOf, actionIn, maskedTerms, termsFor, placeFor, rowFor, ledgerFor, lineFor}
 use Rattle.submission.specs.History.{Call, submit, messageOf, ledgerAfter, hasAction, publishes, lineOf, tape}
-use Rattle.submission.specs.Published.{published, lastIdentifier, lastMasked, toldTerms, toldLine, told}
-use Rattle.submission.proofs.Acceptance.{Fits}
+use Rattle.submission.specs.Published.{published, lastIdentifier, lastMasked, publishedTerms, publishedLine, publishedTape}
+use Rattle.submission.proofs.Acceptance.{HasPlace, has-place, tape-room}
 use Rattle.submission.proofs.Lookup.{row-whole, length-shown, old-place, next-raised, caps-kept, own-row, other-kept}
-use Rattle.submission.proofs.Turn.{by-turn, accepted-line}
+use Rattle.submission.proofs.Outcome.{by-outcome, accepted-line}
 
 -- a ledger holds what the published messages say, the latest first: the next identifier is one more than their number, and each row that is found has the
 -- identifier of its swap's last line and the terms of its last full message
-pub record Holds (caps : Caps) (l : Bytes) (earlier : List Bytes) : Type 0 where
+pub record LedgerAgrees (caps : Caps) (l : Bytes) (earlier : List Bytes) : Type 0 where
   pub caps-are : capsIn l ≡ caps
   pub next-is : nextIdentifier l ≡ suc (length earlier)
   pub identifiers : (u : Bytes) → length u ≤ utiSize → isKnown l u ≡ true → identifierOf (swapRow l u) ≡ lastIdentifier u earlier
@@ -43,20 +43,20 @@ new-line : (a : Action) (i p q : ℕ) (m terms : Bytes) → isNew a ≡ true →
 unfolding line
 new-line a i p q m terms e = rw e
 
-module _ {largest : ℕ} (small : largest < 256 ^ u32) {caps : Caps} {l m : Bytes} {earlier : List Bytes} (h : Holds caps l earlier) {a : Action} (reads : actionIn m ≡ Value a) (f : Fits largest l m a) where
-  terms-told : termsFor a l m ≡ toldTerms caps earlier m
-  unfolding termsFor toldTerms
-  terms-told = rw (reads, h .caps-are) (by (isFull a) refl)
+module _ {largest : ℕ} (small : largest < 256 ^ u32) {caps : Caps} {l m : Bytes} {earlier : List Bytes} (h : LedgerAgrees caps l earlier) {a : Action} (reads : actionIn m ≡ Value a) (f : HasPlace largest l m a) where
+  terms-published : termsFor a l m ≡ publishedTerms caps earlier m
+  unfolding termsFor publishedTerms
+  terms-published = rw (reads, h .caps-are) (by (isFull a) refl)
     where
       by : (b : Bool) → isFull a ≡ b → choose b (maskedTerms caps m) (storedTerms (swapRow l (swapOf m))) ≡ choose b (maskedTerms caps m) (lastMasked caps (swapOf m) earlier)
       by true e = refl
       by false e = h .terms (swapOf m) (f .uti) (f .known (old-unless-full a e))
 
-  line-told : lineFor a l m ≡ toldLine caps earlier m
-  unfolding lineFor toldLine swapIdentifier
-  line-told = rw (reads, terms-told, h .next-is) (by (isNew a) refl)
+  line-published : lineFor a l m ≡ publishedLine caps earlier m
+  unfolding lineFor publishedLine swapIdentifier
+  line-published = rw (reads, terms-published, h .next-is) (by (isNew a) refl)
     where
-      by : (b : Bool) → isNew a ≡ b → line a (suc (length earlier)) (swapIdentifier l (swapOf m)) m (toldTerms caps earlier m) ≡ line a (suc (length earlier)) (lastIdentifier (swapOf m) earlier) m (toldTerms caps earlier m)
+      by : (b : Bool) → isNew a ≡ b → line a (suc (length earlier)) (swapIdentifier l (swapOf m)) m (publishedTerms caps earlier m) ≡ line a (suc (length earlier)) (lastIdentifier (swapOf m) earlier) m (publishedTerms caps earlier m)
       by true e = new-line a _ _ _ m _ e
       by false e = rw (f .known e, h .identifiers (swapOf m) (f .uti) (f .known e))
 
@@ -90,7 +90,7 @@ module _ {largest : ℕ} (small : largest < 256 ^ u32) {caps : Caps} {l m : Byte
       by false e = let k = other-kept f small u short (same-apart (swapOf m) u e) known in ap says (k .1) ∙ before u short (k .0)
 
   -- what the ledger holds after
-  after : (b : Bool) → writesLine a ≡ b → Holds caps (ledgerFor a l m) (choose b (m ∷ earlier) earlier)
+  after : (b : Bool) → writesLine a ≡ b → LedgerAgrees caps (ledgerFor a l m) (choose b (m ∷ earlier) earlier)
   unfolding lastIdentifier lastMasked
   after b w =
       record {
@@ -116,28 +116,28 @@ module _ {largest : ℕ} (small : largest < 256 ^ u32) {caps : Caps} {l m : Byte
 
 module _ (limits : Limits) (small : limits .largest < 256 ^ u32) {caps : Caps} where
   -- a call keeps what the ledger holds; where it writes a line, its message is one more that is published
-  pub kept-holding : {l : Bytes} (c : Call) {earlier : List Bytes} → Holds caps l earlier → Holds caps (ledgerAfter limits l c) (choose (publishes limits l c) (messageOf c ∷ earlier) earlier)
+  pub kept-agreeing : {l : Bytes} (c : Call) {earlier : List Bytes} → LedgerAgrees caps l earlier → LedgerAgrees caps (ledgerAfter limits l c) (choose (publishes limits l c) (messageOf c ∷ earlier) earlier)
   unfolding publishes
-  kept-holding {l} (submit m b) {earlier} h =
-      by-turn limits (record { ledger = l; buffers = b }) m (λ s. Holds caps (s .lent .ledger) (choose (both (eqb (s .verdict) 0) (hasAction writesLine m)) (m ∷ earlier) earlier))
-      (λ c. rw (c .reads) (after small h (c .reads) (c .fitting) (writesLine (c .action)) refl))
+  kept-agreeing {l} (submit m b) {earlier} h =
+      by-outcome limits (record { ledger = l; buffers = b }) m (λ s. LedgerAgrees caps (s .lent .ledger) (choose (both (eqb (s .verdict) 0) (hasAction writesLine m)) (m ∷ earlier) earlier))
+      (λ c. rw (c .reads) (after small h (c .reads) (has-place c) (writesLine (c .action)) refl))
       (λ v z. rw z h)
 
   -- what it adds to the tape is the line that the published messages tell
-  line-is-told : {l : Bytes} (c : Call) {earlier : List Bytes} → Holds caps l earlier → lineOf limits l c ≡ choose (publishes limits l c) (toldLine caps earlier (messageOf c)) []
+  line-is-published : {l : Bytes} (c : Call) {earlier : List Bytes} → LedgerAgrees caps l earlier → lineOf limits l c ≡ choose (publishes limits l c) (publishedLine caps earlier (messageOf c)) []
   unfolding lineOf publishes
-  line-is-told {l} (submit m b) {earlier} h =
-      by-turn limits (record { ledger = l; buffers = b }) m
-      (λ s. choose (both (eqb (s .verdict) 0) (hasAction writesLine m)) (take lineSize (s .lent .buffers .tape)) [] ≡ choose (both (eqb (s .verdict) 0) (hasAction writesLine m)) (toldLine caps earlier m) [])
-      (λ c. rw (c .reads) (accepted-line (c .action) l (b .tape) m (c .tape) ∙ rw (line-told small h (c .reads) (c .fitting))))
+  line-is-published {l} (submit m b) {earlier} h =
+      by-outcome limits (record { ledger = l; buffers = b }) m
+      (λ s. choose (both (eqb (s .verdict) 0) (hasAction writesLine m)) (take lineSize (s .lent .buffers .tape)) [] ≡ choose (both (eqb (s .verdict) 0) (hasAction writesLine m)) (publishedLine caps earlier m) [])
+      (λ c. rw (c .reads) (accepted-line (c .action) l (b .tape) m (tape-room c) ∙ rw (line-published small h (c .reads) (has-place c))))
       (λ v z. rw z)
 
-  pub told-from : (cs : List Call) (l : Bytes) (earlier : List Bytes) → Holds caps l earlier → tape limits l cs ≡ told caps earlier (published limits l cs)
-  unfolding tape published told
-  told-from [] l earlier h = refl
-  told-from (c ∷ cs) l earlier h = rw (line-is-told c h) (by (publishes limits l c) (told-from cs (ledgerAfter limits l c) _ (kept-holding c h)))
+  pub published-from : (cs : List Call) (l : Bytes) (earlier : List Bytes) → LedgerAgrees caps l earlier → tape limits l cs ≡ publishedTape caps earlier (published limits l cs)
+  unfolding tape published publishedTape
+  published-from [] l earlier h = refl
+  published-from (c ∷ cs) l earlier h = rw (line-is-published c h) (by (publishes limits l c) (published-from cs (ledgerAfter limits l c) _ (kept-agreeing c h)))
     where
-      by : (b : Bool) → tape limits (ledgerAfter limits l c) cs ≡ told caps (choose b (messageOf c ∷ earlier) earlier) (published limits (ledgerAfter limits l c) cs)
-          → choose b (toldLine caps earlier (messageOf c)) [] ++ tape limits (ledgerAfter limits l c) cs ≡ told caps earlier (choose b (messageOf c ∷ published limits (ledgerAfter limits l c) cs) (published limits (ledgerAfter limits l c) cs))
-      by true e = ap (λ rest. toldLine caps earlier (messageOf c) ++ rest) e
+      by : (b : Bool) → tape limits (ledgerAfter limits l c) cs ≡ publishedTape caps (choose b (messageOf c ∷ earlier) earlier) (published limits (ledgerAfter limits l c) cs)
+          → choose b (publishedLine caps earlier (messageOf c)) [] ++ tape limits (ledgerAfter limits l c) cs ≡ publishedTape caps earlier (choose b (messageOf c ∷ published limits (ledgerAfter limits l c) cs) (published limits (ledgerAfter limits l c) cs))
+      by true e = ap (λ rest. publishedLine caps earlier (messageOf c) ++ rest) e
       by false e = e

@@ -20,7 +20,7 @@ use Rattle.ledger.proofs.LineLaws.{length-line}
 use Rattle.submission.specs.Opening.{Limits}
 use Rattle.submission.specs.Lent.{Lent}
 use Rattle.submission.specs.Submission.{verdictOn, actionIn, lineFor, tapeFor, Submitted, accepted, refused, submitted}
-use Rattle.submission.proofs.Acceptance.{Accepting, accepting, Fits, tape-test, all-fit, is-accepted, is-refused}
+use Rattle.submission.proofs.Acceptance.{Accepted, as-accepted, accepted-answer, is-refused}
 
 module _ (limits : Limits) (lent : Lent) (m : Bytes) where
   -- the first rule broken, and what the submission answers
@@ -30,40 +30,27 @@ module _ (limits : Limits) (lent : Lent) (m : Bytes) where
   abbrev answered : Submitted
   answered = submitted limits lent m
 
-  -- an acceptance: what it is, and what it tells of what was lent
-  pub record Accepts : Type 0 where
-    pub action : Action
-    pub reads : actionIn m ≡ Value action
-    pub fitting : Fits (limits .largest) (lent .ledger) m action
-    pub tape : lineSize ≤ length (lent .buffers .tape)
-    pub answer : answered ≡ accepted action lent m
-
   same-verdict : (n : ℕ) → found .0 ≡ n → answered .verdict ≡ found .0
-  same-verdict zero e = ap (λ s. s .verdict) (is-accepted limits lent m (accepting limits lent m e) e) ∙ sym e
+  same-verdict zero e = ap (λ s. s .verdict) (accepted-answer (as-accepted limits lent m e)) ∙ sym e
   same-verdict (suc n) e = ap (λ s. s .verdict) (is-refused limits lent m n e)
 
   -- the answer's verdict is that of the first rule broken
   pub verdict-is : answered .verdict ≡ found .0
   verdict-is = same-verdict (found .0) refl
 
-  accepts-by : (c : Accepting limits lent m) → found .0 ≡ 0 → Accepts
-  accepts-by c e = record { action = c .action; reads = c .reads; fitting = all-fit c; tape = ltb-false _ _ (tape-test c); answer = is-accepted limits lent m c e }
+  pub when-accepted : answered .verdict ≡ 0 → Accepted limits lent m
+  when-accepted v = as-accepted limits lent m (sym verdict-is ∙ v)
 
-  pub accepts : answered .verdict ≡ 0 → Accepts
-  accepts v =
-      let e : found .0 ≡ 0 = sym verdict-is ∙ v in
-      accepts-by (accepting limits lent m e) e
-
-  pub refuses : (n : ℕ) → answered .verdict ≡ suc n → answered ≡ refused found lent
-  refuses n v = is-refused limits lent m n (sym verdict-is ∙ v)
+  pub when-refused : (n : ℕ) → answered .verdict ≡ suc n → answered ≡ refused found lent
+  when-refused n v = is-refused limits lent m n (sym verdict-is ∙ v)
 
   -- what holds of an acceptance and of a refusal holds of the answer
-  pub by-turn : (P : Submitted → Type 0) → ((c : Accepts) → P (accepted (c .action) lent m)) → ((v : ℕ × ℕ) → eqb (v .0) 0 ≡ false → P (refused v lent)) → P answered
-  by-turn P takes leaves = by (answered .verdict) refl
+  pub by-outcome : (P : Submitted → Type 0) → ((c : Accepted limits lent m) → P (accepted (c .action) lent m)) → ((v : ℕ × ℕ) → eqb (v .0) 0 ≡ false → P (refused v lent)) → P answered
+  by-outcome P takes leaves = by (answered .verdict) refl
     where
       by : (n : ℕ) → answered .verdict ≡ n → P answered
-      by zero v = let c : Accepts = accepts v in rw (c .answer) (takes c)
-      by (suc n) v = rw (refuses n v) (leaves found (ne-eqb (found .0) 0 (λ e. omega (arith, e, v, verdict-is))))
+      by zero v = let c : Accepted limits lent m = when-accepted v in rw (accepted-answer c) (takes c)
+      by (suc n) v = rw (when-refused n v) (leaves found (ne-eqb (found .0) 0 (λ e. omega (arith, e, v, verdict-is))))
 
 -- the line in the tape buffer
 pub accepted-line : (a : Action) (l t m : Bytes) → lineSize ≤ length t → choose (writesLine a) (take lineSize (tapeFor a l t m)) [] ≡ choose (writesLine a) (lineFor a l m) []

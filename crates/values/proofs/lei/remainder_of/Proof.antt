@@ -1,4 +1,4 @@
--- `values::lei::spelled` meets its contract. The invariant: r is the remainder of the number that the first k characters spell. Assumes nothing.
+-- `values::lei::remainder_of` meets its contract. The invariant: r is the remainder of the number that the first k characters spell. Assumes nothing.
 use Prim.Native.Nat.{ℕ, _+_, _-_, _%_, _<_, _≤_}
 use mathlib.Core.List.{_++_}
 use mathlib.Core.Path.{_≡_, sym, ap, _∙_}
@@ -11,8 +11,8 @@ use Rattle.values.specs.Limits.{leiModulus}
 use Rattle.values.specs.Lei.{spell}
 use Rattle.values.proofs.LeiLaws.{take-more, spell-mod, spell-append}
 use borrow.Author.Needs.{needs}
-use Rattle.values.proofs.lei.spelled.Statement.{statement}
-use Rattle.values.proofs.lei.spelled.Tie as tie
+use Rattle.values.proofs.lei.remainder_of.Statement.{statement}
+use Rattle.values.proofs.lei.remainder_of.Tie as tie
 
 abbrev Inv-loop : tie.InvT-loop
 Inv-loop v r₀ k₀ r k = (k ≤ length v) × (r < leiModulus) × (r ≡ spell 0 (take k v) % leiModulus)
@@ -49,8 +49,8 @@ returns c =
     let v = now (c .before .before .before .args .v) in
     c .before .loop .inv .2 ∙ ap (λ (s : Bytes). spell 0 s % leiModulus) (take-all (c .before .loop .k) v (omega arith))
 
-pub spelled-spec : {M : Type 1} → statement M
-spelled-spec =
+pub remainder-of-spec : {M : Type 1} → statement M
+remainder-of-spec =
     tie.close
     (tie.spec
     Inv-loop

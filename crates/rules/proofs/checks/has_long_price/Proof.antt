@@ -1,4 +1,4 @@
--- `rules::checks::is_price_too_long` meets its contract. Assumes nothing.
+-- `rules::checks::has_long_price` meets its contract. Assumes nothing.
 use mathlib.Core.Path.{_≡_, sym, ap, _∙_}
 use borrow.Author.Tests.{not-true, not-false}
 use Rattle.octets.specs.Text.{text}
@@ -7,39 +7,39 @@ use Rattle.elements.specs.Codes.{priceNotation}
 use Rattle.elements.specs.declared.conditions.Facts.{Facts}
 use Rattle.elements.specs.Conditions.{isPackage, valueIs, factsOf}
 use Rattle.numbers.specs.Numbers.{unsignedOf}
-use Rattle.rules.specs.Rules.{longPrice, priceTooLong}
+use Rattle.rules.specs.Rules.{longPrice, hasLongPrice}
 use borrow.Author.Needs.{needs}
-use Rattle.rules.proofs.checks.is_price_too_long.Statement.{statement}
-use Rattle.rules.proofs.checks.is_price_too_long.Tie as tie
+use Rattle.rules.proofs.checks.has_long_price.Statement.{statement}
+use Rattle.rules.proofs.checks.has_long_price.Tie as tie
 
 -- what the facts tell, and the test of the notation
 packaged : (c : tie.Start) → c .args .facts .packaged ≡ isPackage (now (c .args .m))
 unfolding factsOf
 packaged c = ap (λ (f : Facts). f .packaged) (c .pre)
 
-told : (c : tie.After-value-is) → c .value-is .result ≡ valueIs priceNotation (text "3") (now (c .before .before .before .before .before .args .m))
+ensured : (c : tie.After-value-is) → c .value-is .result ≡ valueIs priceNotation (text "3") (now (c .before .before .before .before .before .args .m))
 unfolding text
-told c = c .value-is .ensures
+ensured c = c .value-is .ensures
 
 returns : tie.Need-returns
-unfolding priceTooLong
+unfolding hasLongPrice
 returns c = rw (sym (packaged (c .before .before .before)) ∙ not-true _ (c .if1 .taken))
 
 returns-2 : tie.Need-returns-2
-unfolding priceTooLong
-returns-2 c = rw (sym (packaged (c .before .before .before .before .before .before)) ∙ not-false _ (c .before .before .before .if1 .left), sym (told (c .before)) ∙ not-true _ (c .if2 .taken))
+unfolding hasLongPrice
+returns-2 c = rw (sym (packaged (c .before .before .before .before .before .before)) ∙ not-false _ (c .before .before .before .if1 .left), sym (ensured (c .before)) ∙ not-true _ (c .if2 .taken))
 
 returns-3 : tie.Need-returns-3
-unfolding priceTooLong
+unfolding hasLongPrice
 returns-3 c =
     rw (
       sym (packaged (c .before .before .before .before .before .before .before .before .before)) ∙ not-false _ (c .before .before .before .before .before .before .if1 .left),
-      sym (told (c .before .before .before .before)) ∙ not-false _ (c .before .before .before .if2 .left),
+      sym (ensured (c .before .before .before .before)) ∙ not-false _ (c .before .before .before .if2 .left),
     )
     (c .is-long-price .ensures ∙ ap longPrice (c .before .unsigned-of .ensures ∙ ap unsignedOf (c .before .before .element .ensures .0)))
 
-pub is-price-too-long-spec : {M : Type 1} → statement M
-is-price-too-long-spec =
+pub has-long-price-spec : {M : Type 1} → statement M
+has-long-price-spec =
     tie.close
     (tie.spec
     returns

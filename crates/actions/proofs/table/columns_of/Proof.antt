@@ -1,18 +1,18 @@
--- `actions::table::row_of` meets its contract: each arm is the row of its action. Assumes nothing.
+-- `actions::table::columns_of` meets its contract: each arm is the row of its action. Assumes nothing.
 use mathlib.Core.Path.{_≡_, refl, sym, subst}
 use lib.Dec.{lit<}
 use Rattle.actions.specs.declared.Action.{Action}
 use Rattle.actions.specs.declared.table.Columns.{Columns}
 use Rattle.actions.specs.Actions.{IsRow}
 use borrow.Author.Needs.{needs}
-use Rattle.actions.proofs.table.row_of.Statement.{statement}
-use Rattle.actions.proofs.table.row_of.Tie as tie
+use Rattle.actions.proofs.table.columns_of.Statement.{statement}
+use Rattle.actions.proofs.table.columns_of.Tie as tie
 
 arm : (a b : Action) (r q : Columns) → a ≡ b → r ≡ q → IsRow b q → IsRow a r
 arm a b r q e f h = subst (λ x. IsRow x r) (sym e) (subst (IsRow b) (sym f) h)
 
-pub row-of-spec : {M : Type 1} → statement M
-row-of-spec =
+pub columns-of-spec : {M : Type 1} → statement M
+columns-of-spec =
     tie.close
     (tie.spec
     (λ c. search needs)
