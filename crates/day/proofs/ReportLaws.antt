@@ -39,7 +39,7 @@ put-end d ys at k b {e = e} {f = f} n h p q =
       place = omega (arith, length-append ys (b ∷ []));
     }
 
-pub put-then : {d e f : Bytes} {at r s : ℕ} (ys zs : Bytes) → Put d at ys e r → Put e r zs f s → s ≤ length d → Put d at (ys ++ zs) f s
+put-then : {d e f : Bytes} {at r s : ℕ} (ys zs : Bytes) → Put d at ys e r → Put e r zs f s → s ≤ length d → Put d at (ys ++ zs) f s
 put-then {d} {e} {f} {at} {r} {s} ys zs p q h =
     let here : f ≡ splice (splice d at ys) (at + length ys) zs = q .bytes ∙ ap (λ (x : Bytes). splice x r zs) (p .bytes) ∙ ap (λ (j : ℕ). splice (splice d at ys) j zs) (p .place) in
     record {

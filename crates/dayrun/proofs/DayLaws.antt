@@ -69,7 +69,7 @@ part-more xs ys at n h =
     ap (take n) (drop-append-le at xs ys (omega arith)) ∙ take-append-le n (drop at xs) ys (omega (arith, length-drop at xs))
 
 -- a message that is there whole has the same step
-pub step-more : (d : Day) (xs ys : Bytes) → isWhole xs ≡ true → step d (xs ++ ys) ≡ step d xs
+step-more : (d : Day) (xs ys : Bytes) → isWhole xs ≡ true → step d (xs ++ ys) ≡ step d xs
 step-more d xs ys e =
     let more = frame-more (documentLimits .longest) xs ys e in
     let sent = part-more xs ys lengthSize (lengthOf xs) (whole-length xs e .1) in

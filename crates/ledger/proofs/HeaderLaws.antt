@@ -2,23 +2,18 @@
 use Prim.Native.Nat.{ℕ, _≤_}
 use Prim.Native.String.{String}
 use mathlib.Core.Bool.{Bool, true, false}
-use mathlib.Core.List.{List, [], _∷_, map}
-use mathlib.Core.Path.{_≡_, refl}
+use mathlib.Core.List.{List, [], _∷_}
+use mathlib.Core.Path.{_≡_}
 use native.Mathlib.Omega.{arith}
 use Rattle.octets.specs.Bytes.{Bytes}
 use Rattle.octets.specs.Choice.{choose}
 use Rattle.octets.specs.Same.{sameBytes, lookUp}
 use Rattle.octets.specs.Text.{text}
 use Rattle.octets.proofs.ChoiceLaws.{both-first, both-second}
-use Rattle.values.specs.Code.{assetClasses}
 use Rattle.notional.specs.Masking.{isCap, largestCap}
 use Rattle.notional.proofs.MaskingLaws.{cap-largest}
-use Rattle.ledger.specs.Header.{classCaps, capFor, areCaps}
+use Rattle.ledger.specs.Header.{capFor, areCaps}
 use Rattle.ledger.specs.declared.header.Caps.{Caps}
-
--- the classes with a cap are those that the form of code 25 admits
-pub classes-with-caps : (caps : Caps) → map (λ c. c .0) (classCaps caps) ≡ assetClasses
-classes-with-caps caps = refl
 
 -- the caps one by one
 pub each-cap : (caps : Caps) → areCaps caps ≡ true → (isCap (caps .cr) ≡ true) × (isCap (caps .ir) ≡ true) × (isCap (caps .fx) ≡ true) × (isCap (caps .eq) ≡ true) × (isCap (caps .co) ≡ true)

@@ -3,8 +3,8 @@ use Prim.Native.Nat.{ℕ}
 use mathlib.Core.Path.{_≡_, refl}
 use lib.ListN.{length}
 use Rattle.octets.specs.Bytes.{Bytes}
-use Rattle.octets.specs.Fields.{sizeOf, written, Placed}
-use Rattle.octets.proofs.FieldRun.{length-bytes, field-placed, all-written}
+use Rattle.octets.specs.Fields.{sizeOf, written}
+use Rattle.octets.proofs.FieldRun.{length-bytes, all-written}
 use Rattle.actions.specs.declared.Action.{Action}
 use Rattle.ledger.specs.Layout.{lineSize}
 use Rattle.ledger.specs.Line.{lineFields, line}
@@ -22,8 +22,3 @@ module _ (a : Action) (identifier previous : ℕ) (m terms : Bytes) where
   pub line-written : (d : Bytes) {last : Bytes} → length d ≡ lineSize → last ≡ written 0 (lineFields a identifier previous m terms) d → last ≡ line a identifier previous m terms
   unfolding line
   line-written d size run = all-written (lineFields a identifier previous m terms) d size run
-
-  -- each field stands at document 01's offset
-  pub line-placed : Placed 0 (lineFields a identifier previous m terms) (line a identifier previous m terms)
-  unfolding line
-  line-placed = field-placed (lineFields a identifier previous m terms)

@@ -51,7 +51,7 @@ module _ (caps : Caps) (capacity : ℕ) (l : Bytes) (room : headerSize ≤ lengt
   unfolding rowsInUse
   opened-rows = number-read u32 0 (placed-at _ _ _ opened-placed 0) (lit< tt)
 
-  pub opened-first : firstRow (splice l rowsAt (newHeader caps capacity)) ≡ headerSize
+  opened-first : firstRow (splice l rowsAt (newHeader caps capacity)) ≡ headerSize
   unfolding firstRow
   opened-first = number-read u32 headerSize (placed-at _ _ _ opened-placed 1) (lit< tt)
 
@@ -71,11 +71,11 @@ module _ (caps : Caps) (capacity : ℕ) (l : Bytes) (room : headerSize ≤ lengt
         number-read u64 (caps .co) (placed-at _ _ _ opened-placed 7) (cap-fits (caps .co) (is .4)),
       )
 
-  pub opened-size : sizeOfRows (splice l rowsAt (newHeader caps capacity)) ≡ rowSize
+  opened-size : sizeOfRows (splice l rowsAt (newHeader caps capacity)) ≡ rowSize
   unfolding sizeOfRows
   opened-size = number-read u32 rowSize (placed-at _ _ _ opened-placed 8) (lit< tt)
 
-  pub opened-capacity : capacity < 256 ^ u32 → capacityIn (splice l rowsAt (newHeader caps capacity)) ≡ capacity
+  opened-capacity : capacity < 256 ^ u32 → capacityIn (splice l rowsAt (newHeader caps capacity)) ≡ capacity
   unfolding capacityIn
   opened-capacity h = number-read u32 capacity (placed-at _ _ _ opened-placed 9) h
 

@@ -76,23 +76,23 @@ module _ (l : Bytes) (n : ℕ) (room : headerSize ≤ length l) where
   rows-fit : rowsAt + length (toLe u32 n) ≤ length l
   rows-fit = omega (arith, length-toLe u32 n)
 
-  pub rows-length : length (withRows n l) ≡ length l
+  rows-length : length (withRows n l) ≡ length l
   unfolding withRows
   rows-length = length-splice l (toLe u32 n) rowsAt rows-fit
 
-  pub rows-rows : n < 256 ^ u32 → rowsInUse (withRows n l) ≡ n
+  rows-rows : n < 256 ^ u32 → rowsInUse (withRows n l) ≡ n
   unfolding withRows rowsInUse
   rows-rows b = ap fromLe (rw (length-toLe u32 n) at (part-at l (toLe u32 n) rowsAt rows-fit)) ∙ fromLe-toLe u32 n b
 
-  pub rows-next : nextIdentifier (withRows n l) ≡ nextIdentifier l
+  rows-next : nextIdentifier (withRows n l) ≡ nextIdentifier l
   unfolding withRows
   rows-next = next-outside l (toLe u32 n) rowsAt rows-fit (λ b. omega (arith, length-toLe u32 n))
 
-  pub rows-caps : capsIn (withRows n l) ≡ capsIn l
+  rows-caps : capsIn (withRows n l) ≡ capsIn l
   unfolding withRows
   rows-caps = caps-outside l (toLe u32 n) rowsAt rows-fit (λ b. omega (arith, length-toLe u32 n))
 
-  pub rows-row : (k : ℕ) → rowAt (withRows n l) k ≡ rowAt l k
+  rows-row : (k : ℕ) → rowAt (withRows n l) k ≡ rowAt l k
   unfolding withRows
   rows-row k = row-outside l (toLe u32 n) rowsAt rows-fit k (λ b. omega (arith, length-toLe u32 n))
 
@@ -101,23 +101,23 @@ module _ (l : Bytes) (n : ℕ) (room : headerSize ≤ length l) where
   next-fit : nextAt + length (toLe u64 n) ≤ length l
   next-fit = omega (arith, length-toLe u64 n)
 
-  pub next-length : length (withNext n l) ≡ length l
+  next-length : length (withNext n l) ≡ length l
   unfolding withNext
   next-length = length-splice l (toLe u64 n) nextAt next-fit
 
-  pub next-rows : rowsInUse (withNext n l) ≡ rowsInUse l
+  next-rows : rowsInUse (withNext n l) ≡ rowsInUse l
   unfolding withNext
   next-rows = rows-outside l (toLe u64 n) nextAt next-fit (λ b. omega arith)
 
-  pub next-next : n < 256 ^ u64 → nextIdentifier (withNext n l) ≡ n
+  next-next : n < 256 ^ u64 → nextIdentifier (withNext n l) ≡ n
   unfolding withNext nextIdentifier
   next-next b = ap fromLe (rw (length-toLe u64 n) at (part-at l (toLe u64 n) nextAt next-fit)) ∙ fromLe-toLe u64 n b
 
-  pub next-caps : capsIn (withNext n l) ≡ capsIn l
+  next-caps : capsIn (withNext n l) ≡ capsIn l
   unfolding withNext
   next-caps = caps-outside l (toLe u64 n) nextAt next-fit (λ b. omega (arith, length-toLe u64 n))
 
-  pub next-row : (k : ℕ) → rowAt (withNext n l) k ≡ rowAt l k
+  next-row : (k : ℕ) → rowAt (withNext n l) k ≡ rowAt l k
   unfolding withNext
   next-row k = row-outside l (toLe u64 n) nextAt next-fit k (λ b. omega (arith, length-toLe u64 n))
 

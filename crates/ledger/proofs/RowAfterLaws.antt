@@ -20,7 +20,7 @@ use Rattle.ledger.specs.Layout.{u64, statusAt, identifierAt, termsAt, ro
 use Rattle.ledger.specs.Rows.{rowFields, newRow, withStatus, withIdentifier, withTerms, rowAfter}
 
 module _ (status : ℕ) (u : Bytes) (identifier : ℕ) (terms : Bytes) where
-  pub length-new-row : length (newRow status u identifier terms) ≡ rowSize
+  length-new-row : length (newRow status u identifier terms) ≡ rowSize
   unfolding newRow
   length-new-row = length-bytes (rowFields status u identifier terms)
 
@@ -42,7 +42,7 @@ pub length-with-identifier : (identifier : ℕ) (r : Bytes) → length r ≡ row
 unfolding withIdentifier
 length-with-identifier identifier r size = length-splice r (toLe u64 identifier) identifierAt (omega (arith, length-toLe u64 identifier)) ∙ size
 
-pub length-with-terms : (terms r : Bytes) → length terms ≡ termsSize → length r ≡ rowSize → length (withTerms terms r) ≡ rowSize
+length-with-terms : (terms r : Bytes) → length terms ≡ termsSize → length r ≡ rowSize → length (withTerms terms r) ≡ rowSize
 unfolding withTerms
 length-with-terms terms r long size = length-splice r terms termsAt (omega arith) ∙ size
 

@@ -18,6 +18,7 @@ use Rattle.octets.proofs.ChoiceLaws.{both-first, both-second, both-none}
 use Rattle.octets.proofs.SearchLaws.{all-at, first-le, first-passes}
 use Rattle.message.specs.Layout.{countSize, entrySize, count, codeAt, offsetAt, headerSize, entryRight, layoutRight}
 use Rattle.message.specs.Values.{entries, entryFrom, endOf, valueAt, value, valuesFrom}
+use Rattle.message.specs.Laws.{Layout-laws}
 
 -- a first entry without room behind the header is wrong
 pub header-cut : (known : List Bool) (m : Bytes) → length m ≤ headerSize m → entryRight known m 0 ≡ false
@@ -57,7 +58,7 @@ module _ (longest most : ℕ) (known : List Bool) (m : Bytes) (right : layoutRig
   offset-first h = eqb-true (offsetAt m 0) (headerSize m) (both-second (ltb (offsetAt m 0) (length m)) _ (both-second (getD known (codeAt m 0) false) _ (entry-right 0 h)))
 
   -- the header is whole
-  pub header-whole : 0 < count m → headerSize m < length m
+  header-whole : 0 < count m → headerSize m < length m
   header-whole h = subst (λ (n : ℕ). n < length m) (offset-first h) (offset-inside 0 h)
 
   pub entries-all : entries m ≡ count m
@@ -161,7 +162,7 @@ module _ (longest most : ℕ) (known : List Bool) (m : Bytes) (right : layoutRig
       rw next (omega arith)
 
   -- an entry is found by its code
-  pub entry-found : (k : ℕ) → k < count m → entryFrom m (codeAt m k) 0 ≡ k
+  entry-found : (k : ℕ) → k < count m → entryFrom m (codeAt m k) 0 ≡ k
   unfolding entryFrom
   entry-found k h =
       let f : ℕ → Bool = λ j. eqb (codeAt m j) (codeAt m k) in
@@ -180,3 +181,7 @@ module _ (longest most : ℕ) (known : List Bool) (m : Bytes) (right : layoutRig
   pub value-found : (k : ℕ) → k < count m → value (codeAt m k) m ≡ valueAt m k
   unfolding value
   value-found k h = ap (valueAt m) (entry-found k h)
+
+-- what `layout_right` cites
+pub layout-laws : Layout-laws
+layout-laws = record { whole = values-whole; filled = value-filled; found = value-found }

@@ -21,7 +21,7 @@ unfolding entries
 entries-most m = omega arith
 
 -- an element whose code no entry has is missing
-pub absent : (m : Bytes) (code : ℕ) → ((k : ℕ) → k < count m → codeAt m k ≡ code → ⊥) → value code m ≡ []
+absent : (m : Bytes) (code : ℕ) → ((k : ℕ) → k < count m → codeAt m k ≡ code → ⊥) → value code m ≡ []
 unfolding value entryFrom valueAt
 absent m code nowhere = rw sub-zero (go (ltb found (entries m)) refl)
   where

@@ -1,3 +1,4 @@
 pub mod Layout
 pub mod Values
 pub mod Reading
+pub mod Laws

@@ -4,6 +4,7 @@ ghost use mathlib.Core.Bool.{false};
 ghost use Prim.Native.Nat.{_+_, _*_, _<_, _≤_};
 ghost use lib.ListN.{length, getD};
 ghost use Rattle.message.specs.Layout.{countSize, entrySize, u16At, entryRight, layoutRight};
+ghost use Rattle.message.specs.Laws.{Layout-laws};
 use octets::read_at;
 use octets::read_le;
 
@@ -65,6 +66,7 @@ fn entry_right(m: &[u8], known: &[bool], k: usize) -> bool
 // Whether the layout is right: at most `longest` bytes, at most `most` entries, each of them right.
 pub fn layout_right(m: &[u8], longest: usize, most: usize, known: &[bool]) -> bool
     ensures { λ r. ⌜ r ≡ layoutRight longest most (now (known .entry)) (now (m .entry)) ⌝ }
+    ensures { λ _. ⌜ Layout-laws ⌝ }
 {
     if m.len() < COUNT {
         return false;

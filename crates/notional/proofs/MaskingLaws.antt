@@ -11,10 +11,11 @@ use Rattle.octets.proofs.ChoiceLaws.{both-first, both-second}
 use Rattle.values.specs.Run.{within}
 use Rattle.numbers.specs.Numbers.{pointIn, wholeOf, decimalsOf}
 use Rattle.notional.specs.Amount.{unit, digit, spelled, fraction, amount}
-use Rattle.notional.specs.Rounding.{bands, stepIn, step, nearest, rounded}
+use Rattle.notional.specs.Rounding.{bands, stepIn, step, nearest, leastShown, rounded}
 use Rattle.notional.specs.Masking.{over, shown, smallestCap, largestCap, isCap}
 use Rattle.notional.specs.Examples.{allShown, Examples-shown}
-use Rattle.notional.proofs.RoundingLaws.{rounded-monotone}
+use Rattle.notional.specs.Laws.{Least-shown, Shown-within, Masking-laws}
+use Rattle.notional.proofs.RoundingLaws.{nearest-step, rounded-monotone, rounded-least, rounded-again}
 
 module _ (cap a : ℕ) where
   -- the test of the cap
@@ -26,7 +27,7 @@ module _ (cap a : ℕ) where
   unfolding over
   over-not h = le-ltb (cap * unit) a h
 
-  pub over-lt : over cap a ≡ true → cap * unit < a
+  over-lt : over cap a ≡ true → cap * unit < a
   unfolding over
   over-lt e = ltb-true (cap * unit) a e
 
@@ -70,8 +71,7 @@ shown-below cap top a h own = go (over cap a) refl
         let l : a ≤ top * unit = omega (arith, over-le cap a e) in
         omega (arith, shown-under cap a e, rounded-monotone a (top * unit) l)
 
--- what is shown under a cap that is its own rounded amount never exceeds it
-pub shown-within : (cap a : ℕ) → isCap cap ≡ true → shown cap a ≤ cap
+pub shown-within : Shown-within
 unfolding isCap
 shown-within cap a e = shown-below cap cap a (omega arith) (eqb-true (rounded (cap * unit)) cap (both-second (within smallestCap largestCap cap) _ e))
 
@@ -79,6 +79,17 @@ shown-within cap a e = shown-below cap cap a (omega arith) (eqb-true (rounded (c
 pub cap-largest : (cap : ℕ) → isCap cap ≡ true → cap ≤ largestCap
 unfolding isCap
 cap-largest cap e = leb-true cap largestCap (both-second (leb smallestCap cap) _ (both-first (within smallestCap largestCap cap) _ e))
+
+cap-smallest : (cap : ℕ) → isCap cap ≡ true → smallestCap ≤ cap
+unfolding isCap
+cap-smallest cap e = leb-true smallestCap cap (both-first (leb smallestCap cap) _ (both-first (within smallestCap largestCap cap) _ e))
+
+pub least-shown : Least-shown
+least-shown cap a e = go (over cap a) refl
+  where
+    go : (t : Bool) → over cap a ≡ t → leastShown ≤ shown cap a
+    go true o = omega (arith, shown-over cap a o, cap-smallest cap e)
+    go false o = omega (arith, shown-under cap a o, rounded-least a)
 
 largest-own : rounded (largestCap * unit) ≡ largestCap
 unfolding rounded step stepIn bands nearest
@@ -93,3 +104,15 @@ shown-largest cap a h = shown-below cap largestCap a h largest-own
 pub examples-shown : Examples-shown
 unfolding allShown text firstFrom pointIn wholeOf decimalsOf digit spelled fraction amount bands stepIn step nearest rounded over shown
 examples-shown = refl
+
+-- ---- what `mask` cites
+
+pub masking-laws : Masking-laws
+masking-laws =
+    record {
+      examples = examples-shown;
+      nearest = nearest-step;
+      least = least-shown;
+      again = rounded-again;
+      within = shown-within;
+    }

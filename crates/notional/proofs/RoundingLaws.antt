@@ -12,6 +12,7 @@ use Rattle.octets.specs.Choice.{both}
 use Rattle.octets.proofs.ChoiceLaws.{both-first, both-second}
 use Rattle.notional.specs.Amount.{unit}
 use Rattle.notional.specs.Rounding.{bands, lastStep, stepIn, step, nearest, Nearest-step, leastShown, rounded}
+use Rattle.notional.specs.Laws.{Rounded-again}
 use Rattle.notional.proofs.BandLaws.{step-here, step-after}
 
 -- ---- rounding by halves of a unit: one law for every step
@@ -194,16 +195,16 @@ pub rounded-monotone : (a b : ℕ) → a ≤ b → rounded a ≤ rounded b
 unfolding rounded step
 rounded-monotone a b h = omega (arith, order 0 bands is-orderly a b h)
 
-pub least-shown : (a : ℕ) → leastShown ≤ rounded a
+-- a rounded amount is not below 5
+pub rounded-least : (a : ℕ) → leastShown ≤ rounded a
 unfolding rounded
-least-shown a = omega arith
+rounded-least a = omega arith
 
 least-own : rounded (leastShown * unit) ≡ leastShown
 unfolding rounded step stepIn bands nearest
 least-own = refl
 
--- rounding a rounded amount changes nothing
-pub rounded-again : (a : ℕ) → rounded (rounded a * unit) ≡ rounded a
+pub rounded-again : Rounded-again
 unfolding rounded step
 rounded-again a = go (side (roundIn bands a) leastShown)
   where

@@ -3,9 +3,9 @@ ghost use mathlib.Core.Path.{_≡_};
 ghost use Prim.Native.Nat.{ℕ, _+_, _*_, _<_, _≤_, min};
 ghost use Rattle.numbers.specs.Numbers.{wholeOf};
 ghost use Rattle.notional.specs.Amount.{unit, digit, spelled, fraction, amount};
-ghost use Rattle.notional.specs.Rounding.{step, Nearest-step, leastShown, lastStep, rounded};
+ghost use Rattle.notional.specs.Rounding.{step, leastShown, lastStep, rounded};
 ghost use Rattle.notional.specs.Masking.{over, shown, largestCap, isCap};
-ghost use Rattle.notional.specs.Examples.{Examples-shown};
+ghost use Rattle.notional.specs.Laws.{Masking-laws};
 use numbers::NOTIONAL_DECIMALS;
 use numbers::decimals_of;
 use numbers::whole_of;
@@ -119,7 +119,7 @@ pub struct Masked {
 pub fn mask(v: &[u8], cap: u64) -> Masked
     requires { ⌜ cap ≤ largestCap ⌝ }
     ensures { λ r. ⌜ (r .units ≡ shown cap (amount (now (v .entry)))) × (r .plus ≡ over cap (amount (now (v .entry)))) ⌝ }
-    ensures { λ _. ⌜ Examples-shown × Nearest-step ⌝ }
+    ensures { λ _. ⌜ Masking-laws ⌝ }
 {
     let whole = whole_units(v);
     let fraction = fraction_of(v);

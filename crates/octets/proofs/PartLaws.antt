@@ -47,16 +47,6 @@ module _ (d ys : Bytes) (at : ℕ) (h : at + length ys ≤ length d) where
   unfolding splice
   part-at = rw (drop-at (take at d) (ys ++ drop (at + length ys) d) at head-length) (take-at ys (drop (at + length ys) d) (length ys) refl)
 
-  -- within it
-  pub part-within : (from n : ℕ) → from + n ≤ length ys → part (splice d at ys) (at + from) n ≡ part ys from n
-  unfolding splice
-  part-within from n l =
-      let rest : Bytes = drop (at + length ys) d in
-      let there : drop (at + from) (take at d ++ (ys ++ rest)) ≡ drop from (ys ++ rest) =
-      sym (drop-drop from at (take at d ++ (ys ++ rest))) ∙ ap (drop from) (drop-at (take at d) (ys ++ rest) at head-length) in
-      let k : n ≤ length (drop from ys) = simp length-drop (omega arith) in
-      rw (there, drop-append-le from ys rest (omega arith)) (take-append-le n (drop from ys) rest k)
-
   -- before it
   pub part-before : (from n : ℕ) → from + n ≤ at → part (splice d at ys) from n ≡ part d from n
   unfolding splice
@@ -84,7 +74,7 @@ module _ (d ys : Bytes) (at : ℕ) (h : at + length ys ≤ length d) where
 -- ---- single bytes
 
 -- a byte is a part of one byte
-pub byte-part : (xs : Bytes) (i : ℕ) → getD xs i 0 ≡ getD (part xs i 1) 0 0
+byte-part : (xs : Bytes) (i : ℕ) → getD xs i 0 ≡ getD (part xs i 1) 0 0
 byte-part [] zero = refl
 byte-part [] (suc i) = refl
 byte-part (x ∷ xs) zero = refl

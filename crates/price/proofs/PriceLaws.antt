@@ -18,8 +18,9 @@ use Rattle.octets.proofs.ChoiceLaws.{both-first}
 use Rattle.octets.proofs.WriteLaws.{drop-next}
 use Rattle.numbers.specs.Numbers.{priceDigits, priceDecimals, pointIn, wholeOf, decimalsOf, hasMinus, unsignedOf, isPrice}
 use Rattle.numbers.proofs.NumbersLaws.{whole-some, digits-most}
-use Rattle.price.specs.Price.{priceSize, dropZeros, trimZeros, empty, shownWhole, shownDecimals, shownUnsigned, isZero, showsMinus, shownSign, shownPrice}
+use Rattle.price.specs.Price.{dropZeros, trimZeros, empty, shownWhole, shownDecimals, shownUnsigned, isZero, showsMinus, shownSign, shownPrice}
 use Rattle.price.specs.Examples.{allShown, Prices-shown}
+use Rattle.price.specs.Laws.{Price-fits, Price-laws}
 
 -- ---- a turn of the loop at i, and of the one that comes from the end, at n
 
@@ -121,10 +122,10 @@ sign-size v = go (showsMinus v)
     go true = omega arith
     go false = omega arith
 
--- a price that its form admits fits its field: a minus, 18 digits and a point
-pub shown-fits : (v : Bytes) → isPrice v ≡ true → length (shownPrice v) ≤ priceSize
+-- a minus, 18 digits and a point
+pub price-fits : Price-fits
 unfolding isPrice shownPrice shownUnsigned
-shown-fits v e =
+price-fits v e =
     let u : Bytes = unsignedOf v in
     let whole : length (shownWhole (wholeOf u)) ≤ length (wholeOf u) = whole-size (wholeOf u) (whole-some priceDigits priceDecimals u e) in
     let digits : length (wholeOf u) + length (decimalsOf u) ≤ priceDigits = digits-most priceDigits priceDecimals u e in
@@ -135,3 +136,8 @@ shown-fits v e =
 pub prices-shown : Prices-shown
 unfolding text sameBytes firstFrom pointIn wholeOf decimalsOf unsignedOf dropZeros trimZeros shownWhole shownDecimals shownUnsigned isZero showsMinus shownSign shownPrice allShown
 prices-shown = refl
+
+-- ---- what `write_price` cites
+
+pub price-laws : Price-laws
+price-laws = record { examples = prices-shown; fits = price-fits }

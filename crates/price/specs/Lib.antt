@@ -1,2 +1,3 @@
 pub mod Price
 pub mod Examples
+pub mod Laws

@@ -6,7 +6,7 @@ ghost use lib.ListN.{length};
 ghost use Rattle.octets.specs.Part.{splice};
 ghost use Rattle.octets.specs.Field.{field, FieldHolds};
 ghost use Rattle.price.specs.Price.{dropZeros, trimZeros, shownWhole, shownDecimals, showsMinus, shownSign, shownPrice};
-ghost use Rattle.price.specs.Examples.{Prices-shown};
+ghost use Rattle.price.specs.Laws.{Price-laws};
 use numbers::decimals_of;
 use numbers::unsigned_of;
 use numbers::whole_of;
@@ -93,7 +93,7 @@ fn append_decimals(dst: &mut [u8], at: usize, d: &[u8]) -> usize
 // Writes the price into dst, left aligned, and spaces behind it.
 pub fn write_price(dst: &mut [u8], v: &[u8])
     ensures { λ _. ⌜ now (dst .exit) ≡ field (length (now (dst .entry))) (shownPrice (now (v .entry))) ⌝ }
-    ensures { λ _. ⌜ Prices-shown ⌝ }
+    ensures { λ _. ⌜ Price-laws ⌝ }
 {
     let u = unsigned_of(v);
     fill(dst, b' ');

@@ -31,7 +31,7 @@ use Rattle.submission.specs.Opening.{Limits}
 use Rattle.submission.specs.Lent.{Lent}
 use Rattle.submission.specs.Submission.{swapOf, actionIn, capOn, hasWrongRow, swapRules, rulesIn, afterRules, submissionRules, rulesOn, verdictOn}
 use Rattle.repository.specs.declared.decide.Decision.{Decision}
-use Rattle.repository.specs.declared.decide.Decision.the-variants.{Refused, Value}
+use Rattle.repository.specs.declared.decide.Decision.the-variants.{Refused}
 use Rattle.repository.specs.Decision.{acceptanceFor, decidedOn, decision, decisionFrom, decidedFrom, decisionIn, HeaderRead}
 
 refuses : (n e : ℕ) (r : Checked) (l m : Bytes) → eqb n 0 ≡ false → decidedOn (n, e) r l m ≡ Refused n e

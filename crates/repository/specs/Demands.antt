@@ -1,15 +1,15 @@
 -- The demands, as the contracts of the exported operations cite them: each is a theorem of `submission`. An answer in one number has its own law.
 use Rattle.submission.specs.Opening.{documentLimits}
 use Rattle.submission.specs.Demand1.{Submission-answers, Opening-answers, Question-answers}
-use Rattle.submission.specs.Demand2.{Verdict-exactly, Checking-order, Accepted-exactly, Writes-under, Acceptance-writes, Opening-exactly, Opening-writes, Opening-passes, Question-exactly}
+use Rattle.submission.specs.Demand2.{Verdict-exactly, Checking-order, Accepted-exactly, Writes-under, Acceptance-writes, Opening-exactly, Opening-writes, Opening-passes-under, Opening-passes, Question-exactly}
 use Rattle.submission.specs.Demand3.{Same-tapes-under, Same-tapes, Masked-terms-public}
 use Rattle.submission.specs.Published.{Tape-published-under, Tape-published}
 use Rattle.submission.specs.Counting.{Identifier-with-line, Identifier-counts-under, Identifier-counts, Quiet-call}
 use Rattle.repository.specs.Answers.{Number-carries}
 
--- opening: demands 1 and 2
+-- opening: demands 1 and 2, and that a submission finds its header right, also at document 01's limits
 abbrev pub Opening-demands : Type 0
-Opening-demands = Opening-answers × Opening-exactly × Opening-writes × Opening-passes
+Opening-demands = Opening-answers × Opening-exactly × Opening-writes × Opening-passes × Opening-passes-under documentLimits
 
 -- submitting: demands 1, 2 and 3, and what they rest on
 pub record Submission-demands : Type 0 where

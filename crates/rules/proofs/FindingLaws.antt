@@ -5,7 +5,7 @@ use mathlib.Core.Path.{_≡_, refl, sym, ap, _∙_, subst}
 use mathlib.Core.List.{List, [], _∷_, _++_}
 use native.Mathlib.Omega.{arith}
 use lib.Dec.{leb, ltb, eqb}
-use borrow.Author.Tests.{ltb-true, eqb-true, eqb-false, eq-eqb, le-leb, leb-true, leb-false}
+use borrow.Author.Tests.{ltb-true, eqb-true, eqb-false, eq-eqb, leb-true, leb-false}
 use Rattle.octets.specs.Choice.{choose, both}
 use Rattle.octets.specs.Search.{firstFrom}
 use Rattle.octets.proofs.ChoiceLaws.{both-first, both-second}
@@ -249,25 +249,6 @@ module _ (f : ℕ → Bool) where
       by false g w =
           let h : lastCode < firstFrom f 1 lastCode = leb-false _ _ g in
           below (firstFrom f 1 lastCode) code refl l u (omega arith)
-
-  pub at-fault-lowest : (e : ℕ) → LowestAtFault f e → lowest f ≡ broken e
-  unfolding lowest
-  at-fault-lowest e a = rw (is, le-leb _ _ (a .1))
-    where
-      at : 1 + (e - 1) ≡ e
-      at = omega (arith, a .0)
-
-      up : firstFrom f 1 lastCode ≤ e
-      up = omega (arith, at, first-le f 1 lastCode (e - 1) (omega (arith, a .0, a .1)) (subst (λ c. f c ≡ true) (sym at) (a .2)))
-
-      lower : firstFrom f 1 lastCode < e → ⊥
-      lower h =
-          let yes : f (firstFrom f 1 lastCode) ≡ true = first-passes f 1 lastCode (omega (arith, a .1)) in
-          let no : f (firstFrom f 1 lastCode) ≡ false = a .3 (firstFrom f 1 lastCode) (first-from f 1 lastCode) h in
-          false≢true (sym no ∙ yes)
-
-      is : firstFrom f 1 lastCode ≡ e
-      is = omega (arith, up, lower)
 
   pub none-at-fault : ((code : ℕ) → 1 ≤ code → code ≤ lastCode → f code ≡ false) → lowest f ≡ passed
   unfolding lowest

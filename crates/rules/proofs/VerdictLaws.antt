@@ -1,11 +1,10 @@
--- Document 01, 'Verdict numbers', in words: what verdict and element say of a message. Assumes nothing.
-use Prim.Native.Nat.{ℕ, _<_}
+-- Laws of the verdict on a message: its rules' numbers differ, when it is accepted, which element 6 names, what judging answers. Assumes nothing.
+use Prim.Native.Nat.{ℕ}
 use native.Mathlib.Omega.{arith}
 use mathlib.Core.Bool.{Bool, true, false, false≢true}
-use mathlib.Core.Path.{_≡_, refl, sym, ap, _∙_}
-use mathlib.Core.Logic.{_↔_}
+use mathlib.Core.Path.{_≡_, refl, sym}
 use mathlib.Core.List.{List, [], _∷_}
-use lib.Dec.{eqb, lit<}
+use lib.Dec.{eqb}
 use borrow.Author.Tests.{eqb-true}
 use Prim.Native.String.{String}
 use Rattle.octets.specs.Bytes.{Bytes}
@@ -14,17 +13,14 @@ use Rattle.octets.specs.Text.{text}
 use Rattle.octets.specs.Same.{sameBytes, lookUp}
 use Rattle.octets.proofs.ChoiceLaws.{both-first, both-second}
 use Rattle.message.specs.Values.{value}
-use Rattle.actions.specs.declared.Action.{Action}
 use Rattle.actions.specs.declared.Checked.{Checked}
 use Rattle.actions.specs.declared.Checked.the-variants.{Fault, Value}
 use Rattle.actions.specs.Actions.{actionType, actionCodes, actionOf}
 use Rattle.elements.specs.Forms.{isRead}
-use Rattle.rules.specs.declared.checks.Check.{Check}
-use Rattle.rules.specs.declared.checks.Check.the-variants.{Needed, Taken, Formed, Due}
 use Rattle.rules.specs.Verdicts.{actionWrong, elementMissing, elementNotTaken, formBroken, conditionalMissing}
-use Rattle.rules.specs.Findings.{broken, lowest, firstBroken, findingOf, isOneOf, AllPassed, FirstBroken, LowestAtFault}
-use Rattle.rules.specs.Rules.{actionIn, atFault, numberOf, finding, rulesOf, rulesFor, rules, verdict, conclude, judged, verdictOf}
-use Rattle.rules.proofs.FindingLaws.{unused, distinct, namedBy, names-none, broken-first, first-broken, all-passed, none-broken, lowest-broken}
+use Rattle.rules.specs.Findings.{broken, AllPassed}
+use Rattle.rules.specs.Rules.{finding, rulesOf, rulesFor, rules, verdict, conclude, judged, verdictOf}
+use Rattle.rules.proofs.FindingLaws.{unused, distinct, all-passed, none-broken}
 
 -- no two rules have the same number, and none has 0
 pub differ : (r : Checked) (longest : ℕ) (m : Bytes) → distinct (rulesFor r longest m) ≡ true
@@ -34,11 +30,6 @@ differ (Value a) longest m = refl
 
 pub numbers-differ : (longest : ℕ) (m : Bytes) → distinct (rules longest m) ≡ true
 numbers-differ longest m = differ (actionOf (value actionType m)) longest m
-
--- the verdict is n, with element e, exactly where the rule with number n is broken, names e, and no earlier one is broken
-pub verdict-exactly : (longest : ℕ) (m : Bytes) (n e : ℕ) → 0 < n → (verdict longest m ≡ (n, e)) ↔ FirstBroken (rules longest m) n e
-unfolding verdict
-verdict-exactly longest m n e p = (broken-first (rules longest m) n e (numbers-differ longest m) p, first-broken (rules longest m) n e)
 
 -- the verdict is 0 exactly where every rule is passed; it names no element then
 pub accepted-exactly : (longest : ℕ) (m : Bytes) → (verdict longest m .0 ≡ 0 → AllPassed (rules longest m)) × (AllPassed (rules longest m) → verdict longest m ≡ (0, 0))
@@ -71,44 +62,14 @@ fault-code (c ∷ cs) v e all f =
         absurd (omega arith)
     by false r is g rest = rest g
 
-module _ (longest : ℕ) (m : Bytes) (a : Action) (read : actionOf (value actionType m) ≡ Value a) where
-  -- a rule whose number is the verdict is broken
-  broken-at : (n e : ℕ) → 0 < n → verdict longest m ≡ (n, e) → findingOf n (rulesFor (Value a) longest m) ≡ broken e
-  unfolding verdict
-  broken-at n e p v = broken-first (rulesFor (Value a) longest m) n e (differ (Value a) longest m) p (ap (λ r. firstBroken (rulesFor r longest m)) (sym read) ∙ v) .0
-
-  -- 7, 8, 9 and 11: the element is at fault and no lower one is
-  pub names-lowest : (k : Check) (e : ℕ) → verdict longest m ≡ (numberOf k, e) → LowestAtFault (atFault k a m) e
-  unfolding findingOf rulesFor rulesOf
-  names-lowest k e v = lowest-broken (atFault k a m) e (by k v)
-    where
-      by : (k : Check) → verdict longest m ≡ (numberOf k, e) → lowest (atFault k a m) ≡ broken e
-      by Needed w = broken-at (numberOf Needed) e (lit< tt) w
-      by Taken w = broken-at (numberOf Taken) e (lit< tt) w
-      by Formed w = broken-at (numberOf Formed) e (lit< tt) w
-      by Due w = broken-at (numberOf Due) e (lit< tt) w
-
 -- the numbers that name an element
 abbrev pub namingNumbers : List ℕ
 namingNumbers = actionWrong ∷ elementMissing ∷ elementNotTaken ∷ formBroken ∷ conditionalMissing ∷ []
-
--- under every other one the element is 0
-pub others-name-none : (longest : ℕ) (m : Bytes) → isOneOf namingNumbers (verdict longest m .0) ≡ false → verdict longest m .1 ≡ 0
-unfolding verdict namedBy isOneOf rulesFor rulesOf
-others-name-none longest m other = names-none namingNumbers (rules longest m) (by (actionIn m)) other
-  where
-    by : (r : Checked) → namedBy namingNumbers (rulesFor r longest m) ≡ true
-    by (Fault code) = refl
-    by (Value a) = refl
 
 -- 6: the element is the action's
 pub action-at-fault : (v : Bytes) (e : ℕ) → finding (actionOf v) ≡ broken e → e ≡ actionType
 unfolding actionOf allRead
 action-at-fault v e f = fault-code actionCodes v e refl (of-finding (actionOf v) e f)
-
-pub action-names-itself : (longest : ℕ) (m : Bytes) (e : ℕ) → verdict longest m ≡ (actionWrong, e) → e ≡ actionType
-unfolding verdict rulesFor findingOf
-action-names-itself longest m e v = action-at-fault (value actionType m) e (broken-first (rules longest m) actionWrong e (numbers-differ longest m) (lit< tt) v .0)
 
 -- the answer of judging has the verdict's number and element
 pub judged-verdict : (longest : ℕ) (m : Bytes) → verdictOf (judged longest m) ≡ verdict longest m

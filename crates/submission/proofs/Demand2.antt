@@ -298,7 +298,7 @@ opening-exactly limits caps l = by (ltb (length l) shortestLedger) refl (areCaps
         }
 
 pub opening-passes : Opening-passes
-opening-passes limits caps l small v = start-right limits caps l v small
+opening-passes limits small caps l v = start-right limits caps l v small
 
 pub opening-writes : Opening-writes
 opening-writes limits caps l v =

@@ -71,7 +71,7 @@ module _ {largest : ℕ} {l m : Bytes} {a : Action} (f : HasPlace largest l m a)
   pub row-whole : (j : ℕ) → j < capacityIn l → length (rowAt l j) ≡ rowSize
   row-whole j h = row.length-row l j (omega (arith, room j h))
 
-  pub known-place : isKnown l (swapOf m) ≡ true → placeOf l (swapOf m) < capacityIn l
+  known-place : isKnown l (swapOf m) ≡ true → placeOf l (swapOf m) < capacityIn l
   unfolding isKnown
   known-place e = omega (arith, ltb-true (placeOf l (swapOf m)) (rowsInUse l) e, f .header .rows)
 
@@ -130,7 +130,7 @@ module _ {largest : ℕ} {l m : Bytes} {a : Action} (f : HasPlace largest l m a)
   unfolding ledgerFor
   row-written = raised-row a (rowsInUse l) (nextIdentifier l) stored header-there (placeFor a l m) ∙ row-same l (rowFor a l m) (placeFor a l m) length-after here
 
-  pub row-kept : (j : ℕ) → (j ≡ placeFor a l m → ⊥) → rowAt (ledgerFor a l m) j ≡ rowAt l j
+  row-kept : (j : ℕ) → (j ≡ placeFor a l m → ⊥) → rowAt (ledgerFor a l m) j ≡ rowAt l j
   unfolding ledgerFor
   row-kept j differ = raised-row a (rowsInUse l) (nextIdentifier l) stored header-there j ∙ row-other l (rowFor a l m) (placeFor a l m) length-after here j differ
 
@@ -197,18 +197,7 @@ module _ {largest : ℕ} {l m : Bytes} {a : Action} (f : HasPlace largest l m a)
       new-asked e (swapOf m) none ∙ rw (new-row-holds e (swapOf m) .1 refl) (sym (new-place e))
   own-place false e = old-places e (swapOf m) (f .uti) ∙ sym (old-place e)
 
-  own-in-use : (b : Bool) → isNew a ≡ b → placeFor a l m < rowsInUse (ledgerFor a l m)
-  unfolding isKnown
-  own-in-use true e = omega (arith, new-place e, new-rows e)
-  own-in-use false e =
-      let same : rowsInUse (ledgerFor a l m) ≡ rowsInUse l = rows-raised ∙ rw e in
-      omega (arith, old-place e, ltb-true (placeOf l (swapOf m)) (rowsInUse l) (f .known e))
-
-  -- it is known, and its row is the one written
-  pub own-known : isKnown (ledgerFor a l m) (swapOf m) ≡ true
-  unfolding isKnown
-  own-known = rw (own-place (isNew a) refl) (lt-ltb _ _ (own-in-use (isNew a) refl))
-
+  -- its row is the one written
   pub own-row : swapRow (ledgerFor a l m) (swapOf m) ≡ rowFor a l m
   own-row = ap (rowAt (ledgerFor a l m)) (own-place (isNew a) refl) ∙ row-written
 

@@ -6,20 +6,19 @@ use mathlib.Core.List.{[]}
 use native.Mathlib.Omega.{arith}
 use lib.ListN.{length, take}
 use lib.Dec.{eqb}
-use borrow.Author.Tests.{ne-eqb, ltb-false}
+use borrow.Author.Tests.{ne-eqb}
 use Rattle.octets.specs.Bytes.{Bytes}
 use Rattle.octets.specs.Choice.{choose}
 use Rattle.octets.specs.Part.{splice}
 use Rattle.octets.proofs.PartLaws.{part-at}
 use Rattle.actions.specs.declared.Action.{Action}
-use Rattle.actions.specs.declared.Checked.the-variants.{Value}
 use Rattle.actions.specs.Actions.{writesLine}
 use Rattle.ledger.specs.Layout.{lineSize}
 use Rattle.ledger.specs.Header.{nextIdentifier}
 use Rattle.ledger.proofs.LineLaws.{length-line}
 use Rattle.submission.specs.Opening.{Limits}
 use Rattle.submission.specs.Lent.{Lent}
-use Rattle.submission.specs.Submission.{verdictOn, actionIn, lineFor, tapeFor, Submitted, accepted, refused, submitted}
+use Rattle.submission.specs.Submission.{verdictOn, lineFor, tapeFor, Submitted, accepted, refused, submitted}
 use Rattle.submission.proofs.Acceptance.{Accepted, as-accepted, accepted-answer, is-refused}
 
 module _ (limits : Limits) (lent : Lent) (m : Bytes) where

@@ -129,12 +129,16 @@ pub record HeaderWritten (limits : Limits) (caps : Caps) (l l′ : Bytes) : Type
   pub later : drop headerSize l′ ≡ drop headerSize l
   pub long : length l′ ≡ length l
 
--- what opening wrote passes 3
-abbrev pub Opening-passes : Type 0
-Opening-passes = (limits : Limits) (caps : Caps) (l : Bytes) → limits .largest < 256 ^ u32 → opened limits caps l .verdict ≡ 0 → headerRight (limits .largest) (opened limits caps l .ledger) ≡ true
-
 abbrev pub Opening-writes : Type 0
 Opening-writes = (limits : Limits) (caps : Caps) (l : Bytes) → opened limits caps l .verdict ≡ 0 → HeaderWritten limits caps l (opened limits caps l .ledger)
+
+-- what opening wrote passes 3
+abbrev pub Opening-passes-under : Limits → Type 0
+Opening-passes-under limits = (caps : Caps) (l : Bytes) → opened limits caps l .verdict ≡ 0 → headerRight (limits .largest) (opened limits caps l .ledger) ≡ true
+
+-- under any limits whose largest capacity the header's field can hold
+abbrev pub Opening-passes : Type 0
+Opening-passes = (limits : Limits) → limits .largest < 256 ^ u32 → Opening-passes-under limits
 
 -- ---- the status question
 

@@ -11,6 +11,8 @@ use Rattle.elements.specs.Conditions.{isPackage, valueIs, factsOf, met, kept}
 use Rattle.elements.specs.Table.{elementOf}
 use Rattle.terms.specs.Terms.{termsOf}
 use Rattle.terms.specs.Public.{isPublicTerm, Agree, Terms-public}
+use Rattle.terms.specs.Laws.{Terms-laws}
+use Rattle.terms.proofs.TermLaws.{notional-fits}
 
 module _ (m₁ m₂ : Bytes) (same : Agree m₁ m₂) where
   -- the conditions are about public elements
@@ -51,3 +53,7 @@ terms-public cap₁ cap₂ m₁ m₂ same masked =
       k settlementLocation refl,
       k assetClass refl,
     )
+
+-- what `write_terms` cites
+pub terms-laws : Terms-laws
+terms-laws = record { public = terms-public; fits = notional-fits }

@@ -1,5 +1,5 @@
 -- Laws of specs/Terms.antt. Assumes nothing.
-use Prim.Native.Nat.{ℕ, _+_, _^_, _<_, _≤_}
+use Prim.Native.Nat.{ℕ, _+_}
 use mathlib.Core.Bool.{Bool}
 use mathlib.Core.Path.{_≡_}
 use mathlib.Core.List.{[], _∷_}
@@ -10,14 +10,14 @@ use Rattle.octets.specs.Bytes.{Bytes}
 use Rattle.octets.specs.Choice.{choose}
 use Rattle.octets.specs.Text.{text}
 use Rattle.values.specs.Code.{isTrue}
-use Rattle.notional.specs.Masking.{largestCap, shown}
 use Rattle.notional.proofs.MaskingLaws.{shown-largest}
 use Rattle.price.specs.Price.{shownPrice}
 use Rattle.octets.specs.Part.{splice}
 use Rattle.octets.specs.Field.{field}
-use Rattle.octets.specs.Fields.{FieldText, written, Placed}
-use Rattle.terms.specs.Terms.{notionalSize, shownTruth, priceText, termFields, termsOf, termsSize}
-use Rattle.octets.proofs.FieldRun.{then-written, last-written, length-bytes, all-written, field-placed}
+use Rattle.octets.specs.Fields.{FieldText, written}
+use Rattle.terms.specs.Terms.{shownTruth, priceText, termFields, termsOf, termsSize}
+use Rattle.terms.specs.Laws.{Notional-fits}
+use Rattle.octets.proofs.FieldRun.{then-written, last-written, length-bytes, all-written}
 
 -- ---- what is shown of a value
 
@@ -41,8 +41,7 @@ pub price-some : (v : Bytes) → (length v ≡ 0 → ⊥) → shownPrice v ≡ p
 unfolding priceText
 price-some v some = rw (ne-eqb _ _ some)
 
--- the digits of the notional hold what is shown
-pub notional-fits : (cap a : ℕ) → cap ≤ largestCap → shown cap a < 10 ^ notionalSize
+pub notional-fits : Notional-fits
 notional-fits cap a h = omega (arith, shown-largest cap a h)
 
 -- ---- the terms as a whole
@@ -50,11 +49,6 @@ notional-fits cap a h = omega (arith, shown-largest cap a h)
 pub length-terms : (cap : ℕ) (m : Bytes) → length (termsOf cap m) ≡ termsSize
 unfolding termsOf
 length-terms cap m = length-bytes (termFields cap m)
-
--- each field stands at document 01's offset, counted from where the terms start
-pub term-placed : (cap : ℕ) (m : Bytes) → Placed 0 (termFields cap m) (termsOf cap m)
-unfolding termsOf
-term-placed cap m = field-placed (termFields cap m)
 
 -- four fields, written one after the other
 pub four-written : (at : ℕ) (f₁ f₂ f₃ f₄ : FieldText) (d : Bytes) {d₁ d₂ d₃ last : Bytes}

@@ -1,2 +1,3 @@
 pub mod Terms
 pub mod Public
+pub mod Laws

@@ -10,7 +10,7 @@ ghost use Rattle.elements.specs.Codes.{notionalAmount};
 ghost use Rattle.notional.specs.Amount.{amount};
 ghost use Rattle.notional.specs.Masking.{over, shown, largestCap};
 ghost use Rattle.terms.specs.Terms.{markSize, shownTruth, priceText, plusText, dateFields, truthFields, quoteFields, quoteSize, notionalFields, termsOf, nonStandardizedAt, classAt, termsSize};
-ghost use Rattle.terms.specs.Public.{Terms-public};
+ghost use Rattle.terms.specs.Laws.{Terms-laws};
 use elements::ASSET_CLASS;
 use elements::BLOCK_ELECTION;
 use elements::CLEARED;
@@ -224,7 +224,7 @@ fn write_notional(dst: &mut [u8], m: &[u8], facts: Facts, cap: u64)
 pub fn write_terms(dst: &mut [u8], m: &[u8], cap: u64)
     requires { ⌜ (length (now dst) ≡ termsSize) × (cap ≤ largestCap) ⌝ }
     ensures { λ _. ⌜ now (dst .exit) ≡ termsOf cap (now (m .entry)) ⌝ }
-    ensures { λ _. ⌜ Terms-public ⌝ }
+    ensures { λ _. ⌜ Terms-laws ⌝ }
 {
     let facts = elements::facts_of(m);
     write_dates(dst, m, facts);

@@ -9,8 +9,7 @@ use Rattle.numbers.specs.Numbers.{wholeOf}
 use Rattle.notional.specs.Amount.{unit, spelled, fraction, amount}
 use Rattle.notional.specs.Rounding.{rounded}
 use Rattle.notional.specs.Masking.{over}
-use Rattle.notional.proofs.RoundingLaws.{nearest-step}
-use Rattle.notional.proofs.MaskingLaws.{over-le, over-saturated, shown-over, shown-under, examples-shown}
+use Rattle.notional.proofs.MaskingLaws.{over-le, over-saturated, shown-over, shown-under, masking-laws}
 use Rattle.notional.proofs.mask.Statement.{statement}
 use Rattle.notional.proofs.mask.Tie as tie
 
@@ -30,7 +29,7 @@ returns : tie.Need-returns
 returns c =
     let a = c .before .before .before .before .before .args in
     let above : over (a .cap) (amount (now (a .v))) ≡ true = sym (ensured (c .before)) ∙ c .if1 .taken in
-    ((sym (shown-over _ _ above), sym above), (examples-shown, nearest-step))
+    ((sym (shown-over _ _ above), sym above), masking-laws)
 
 -- an amount up to the cap
 below : (c : tie.Else1) → over (c .before .before .before .before .before .args .cap) (amount (now (c .before .before .before .before .before .args .v))) ≡ false
@@ -49,7 +48,7 @@ returns-2 : tie.Need-returns-2
 unfolding amount
 returns-2 c =
     let e = ap₂ (λ (n d : ℕ). n * unit + d) (whole-kept (c .before)) (c .before .before .before .fraction-of .ensures .0) in
-    ((c .rounded-of .ensures ∙ ap rounded e ∙ sym (shown-under _ _ (below (c .before))), sym (below (c .before))), (examples-shown, nearest-step))
+    ((c .rounded-of .ensures ∙ ap rounded e ∙ sym (shown-under _ _ (below (c .before))), sym (below (c .before))), masking-laws)
 
 pub mask-spec : {M : Type 1} → statement M
 mask-spec =

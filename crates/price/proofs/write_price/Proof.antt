@@ -4,7 +4,7 @@ use denote.Ref.{now}
 use lib.ListN.{length}
 use Rattle.octets.specs.Field.{field}
 use Rattle.octets.proofs.FieldLaws.{holds-none, holds-more}
-use Rattle.price.proofs.PriceLaws.{shown-built, prices-shown}
+use Rattle.price.proofs.PriceLaws.{shown-built, price-laws}
 use borrow.Author.Needs.{needs}
 use Rattle.price.proofs.write_price.Statement.{statement}
 use Rattle.price.proofs.write_price.Tie as tie
@@ -22,7 +22,7 @@ returns c =
     let signed = holds-more (now (s .before .sign-of .result)) empty (s .append .ensures) in
     let whole = w .append-whole .ensures n _ signed in
     let shown = b .append-decimals .ensures n _ whole in
-    (shown .bytes ∙ ap (field n) (shown-built v _ _ _ _ (s .before .sign-of .ensures) (u .unsigned-of .ensures) (w .before .whole-of .ensures) (b .before .decimals-of .ensures)), prices-shown)
+    (shown .bytes ∙ ap (field n) (shown-built v _ _ _ _ (s .before .sign-of .ensures) (u .unsigned-of .ensures) (w .before .whole-of .ensures) (b .before .decimals-of .ensures)), price-laws)
 
 pub write-price-spec : {M : Type 1} → statement M
 write-price-spec =

@@ -1,7 +1,7 @@
 -- `terms::write_terms` meets its contract. Assumes nothing.
 use Rattle.octets.proofs.FieldRun.{then-group}
-use Rattle.terms.proofs.PublicLaws.{terms-public}
 use Rattle.terms.proofs.TermLaws.{terms-written}
+use Rattle.terms.proofs.PublicLaws.{terms-laws}
 use borrow.Author.Needs.{needs}
 use Rattle.terms.proofs.write_terms.Statement.{statement}
 use Rattle.terms.proofs.write_terms.Tie as tie
@@ -17,7 +17,7 @@ returns c =
           (then-group _ _ _ _ (second .before .before .write-truths .ensures)
           (then-group _ _ _ _ (third .before .before .write-quote .ensures)
           (c .before .before .write-notional .ensures)))),
-      terms-public,
+      terms-laws,
     )
 
 pub write-terms-spec : {M : Type 1} → statement M

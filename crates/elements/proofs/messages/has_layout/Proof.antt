@@ -6,7 +6,7 @@ use Rattle.elements.proofs.messages.has_layout.Tie as tie
 
 returns : tie.Need-returns
 unfolding known howMany mostEntries hasLayout
-returns c = c .layout-right .ensures
+returns c = c .layout-right .ensures .0
 
 pub has-layout-spec : {M : Type 1} → statement M
 has-layout-spec =

@@ -1,5 +1,4 @@
 -- `message::entries::entries_of` meets its contract. Assumes nothing.
-use Prim.Native.Nat.{_-_}
 use native.Mathlib.Omega.{arith}
 use Rattle.message.specs.Values.{entries}
 use borrow.Author.Needs.{needs}

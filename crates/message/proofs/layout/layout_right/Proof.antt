@@ -10,7 +10,7 @@ use Rattle.octets.specs.Search.{allFrom, all}
 use lib.ListN.{length}
 use Rattle.octets.proofs.SearchLaws.{all-more, all-stop, all-end}
 use Rattle.message.specs.Layout.{count, headerSize, entryRight, layoutRight}
-use Rattle.message.proofs.LayoutLaws.{header-cut}
+use Rattle.message.proofs.LayoutLaws.{header-cut, layout-laws}
 use Rattle.message.proofs.layout.layout_right.Statement.{statement}
 use Rattle.message.proofs.layout.layout_right.Tie as tie
 
@@ -22,18 +22,18 @@ abbrev μ-loop : tie.MeasureT-loop
 
 returns : tie.Need-returns Inv-loop μ-loop
 unfolding layoutRight
-returns c = rw (lt-leb _ _ (c .if1 .taken))
+returns c = (rw (lt-leb _ _ (c .if1 .taken)), layout-laws)
 
 returns-2 : tie.Need-returns-2 Inv-loop μ-loop
 unfolding layoutRight
-returns-2 c = rw (le-leb _ _ (c .before .if1 .left), lt-leb _ _ (c .if2 .taken))
+returns-2 c = (rw (le-leb _ _ (c .before .if1 .left), lt-leb _ _ (c .if2 .taken)), layout-laws)
 
 returns-3 : tie.Need-returns-3 Inv-loop μ-loop
 unfolding layoutRight
 returns-3 c =
     let a = c .before .before .before .before .before .before .args in
     let r : a .most < count (now (a .m)) = omega arith in
-    rw (le-leb _ _ (c .before .before .before .if1 .left), le-leb _ _ (c .before .before .if2 .left), lt-leb _ _ r)
+    (rw (le-leb _ _ (c .before .before .before .if1 .left), le-leb _ _ (c .before .before .if2 .left), lt-leb _ _ r), layout-laws)
 
 returns-4 : tie.Need-returns-4 Inv-loop μ-loop
 unfolding layoutRight
@@ -41,7 +41,7 @@ returns-4 c =
     let a = c .before .before .before .before .before .before .before .args in
     let r : count (now (a .m)) ≤ a .most = omega arith in
     let z : count (now (a .m)) ≡ 0 = omega arith in
-    rw (le-leb _ _ (c .before .before .before .before .if1 .left), le-leb _ _ (c .before .before .before .if2 .left), le-leb _ _ r, eq-eqb _ _ z)
+    (rw (le-leb _ _ (c .before .before .before .before .if1 .left), le-leb _ _ (c .before .before .before .if2 .left), le-leb _ _ r, eq-eqb _ _ z), layout-laws)
 
 -- where there are entries, the layout is what they tell
 told : (c : tie.Else4 Inv-loop μ-loop)
@@ -59,7 +59,7 @@ returns-5 c =
     let a = c .before .before .before .before .before .before .before .before .args in
     let z : 0 < count (now (a .m)) = omega arith in
     let cut : length (now (a .m)) ≤ headerSize (now (a .m)) = omega arith in
-    sym (told (c .before) ∙ rw sub-zero at (all-stop (entryRight (now (a .known)) (now (a .m))) 0 (count (now (a .m))) z (header-cut (now (a .known)) (now (a .m)) cut)))
+    (sym (told (c .before) ∙ rw sub-zero at (all-stop (entryRight (now (a .known)) (now (a .m))) 0 (count (now (a .m))) z (header-cut (now (a .known)) (now (a .m)) cut))), layout-laws)
 
 loop-holds : tie.Need-loop-holds Inv-loop μ-loop
 loop-holds c = (omega arith, omega arith, omega arith, omega arith, rw sub-zero (sym (told (c .before))))
@@ -69,7 +69,7 @@ returns-6 c =
     let a = c .before .before .before .before .before .before .before .before .before .before .before .before .args in
     let l = c .before .before .before .loop in
     let h : l .k < count (now (a .m)) = omega arith in
-    sym (all-stop (entryRight (now (a .known)) (now (a .m))) (l .k) (count (now (a .m))) h (sym (c .before .entry-right .ensures) ∙ not-true _ (c .if6 .taken))) ∙ l .inv .4
+    (sym (all-stop (entryRight (now (a .known)) (now (a .m))) (l .k) (count (now (a .m))) h (sym (c .before .entry-right .ensures) ∙ not-true _ (c .if6 .taken))) ∙ l .inv .4, layout-laws)
 
 loop-again : tie.Need-loop-again Inv-loop μ-loop
 loop-again c =
@@ -88,7 +88,7 @@ returns-7 c =
     let a = c .before .before .before .before .before .before .before .before .before .before .args in
     let l = c .before .loop in
     let h : count (now (a .m)) ≤ l .k = omega arith in
-    sym (all-end (entryRight (now (a .known)) (now (a .m))) (l .k) (count (now (a .m))) h) ∙ l .inv .4
+    (sym (all-end (entryRight (now (a .known)) (now (a .m))) (l .k) (count (now (a .m))) h) ∙ l .inv .4, layout-laws)
 
 pub layout-right-spec : {M : Type 1} → statement M
 layout-right-spec =
