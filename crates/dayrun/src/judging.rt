@@ -72,8 +72,10 @@ pub fn judge_next(
     requires { ⌜ p .published ≤ p .judged ⌝ }
     requires { ⌜ p .judged < mostMessages ⌝ }
     ensures { λ r. ⌜ r ≡ progressAfter p (stepAt (lentOf (now (ledger .entry)) (now (tape .entry))) (now (input .entry)) p) ⌝ }
-    ensures { λ _. ⌜ now (out .exit) ≡ splice (now (out .entry)) (p .used) (stepAt (lentOf (now (ledger .entry)) (now (tape .entry))) (now (input .entry)) p .line) ⌝ }
-    ensures { λ _. ⌜ lentOf (now (ledger .exit)) (now (tape .exit)) ≡ stepAt (lentOf (now (ledger .entry)) (now (tape .entry))) (now (input .entry)) p .after .lent ⌝ }
+    ensures { λ _. ⌜ now (out .exit)
+        ≡ splice (now (out .entry)) (p .used) (stepAt (lentOf (now (ledger .entry)) (now (tape .entry))) (now (input .entry)) p .line) ⌝ }
+    ensures { λ _. ⌜ lentOf (now (ledger .exit)) (now (tape .exit))
+        ≡ stepAt (lentOf (now (ledger .entry)) (now (tape .entry))) (now (input .entry)) p .after .lent ⌝ }
     ensures { λ r. ⌜ Steps (length (now (input .entry))) p r ⌝ }
     ensures { λ _. ⌜ Judged-at-once ⌝ }
 {

@@ -68,7 +68,8 @@ fn judge_block(
 ) -> Progress
     requires { ⌜ Within (length (now input)) writeSize start ⌝ }
     requires { ⌜ writeSize + longestLine ≤ length (now out) ⌝ }
-    ensures { λ r. ⌜ JudgedUpTo (lentOf (now (ledger .entry)) (now (tape .entry))) (now (input .entry)) (now (out .entry)) start (lentOf (now (ledger .exit)) (now (tape .exit))) (now (out .exit)) r ⌝ }
+    ensures { λ r. ⌜ JudgedUpTo (lentOf (now (ledger .entry)) (now (tape .entry))) (now (input .entry)) (now (out .entry)) start
+        (lentOf (now (ledger .exit)) (now (tape .exit))) (now (out .exit)) r ⌝ }
     ensures { λ r. ⌜ Within (length (now (input .entry))) writeSize r ⌝ }
     ensures { λ r. ⌜ Leaves (now (input .entry)) r ⌝ }
     ensures { λ _. ⌜ Nothing-lost ⌝ }

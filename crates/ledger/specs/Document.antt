@@ -42,7 +42,9 @@ pub record Document-sizes : Type 0 where
   pub header : (caps : Caps) (capacity : ℕ) → places 0 (headerFields caps capacity) ≡ headerPlaces
   pub row : (status : ℕ) (u : Bytes) (identifier : ℕ) (terms : Bytes) → places 0 (rowFields status u identifier terms) ≡ rowPlaces
   -- the fields that are read, by their names
-  pub headerNames : (rowsAt, u32) ∷ (firstRowAt, u32) ∷ (nextAt, u64) ∷ (capAt 0, u64) ∷ (capAt 1, u64) ∷ (capAt 2, u64) ∷ (capAt 3, u64) ∷ (capAt 4, u64) ∷ (rowSizeAt, u32) ∷ (capacityAt, u32) ∷ [] ≡ headerPlaces
+  pub headerNames :
+      (rowsAt, u32) ∷ (firstRowAt, u32) ∷ (nextAt, u64) ∷ (capAt 0, u64)
+      ∷ (capAt 1, u64) ∷ (capAt 2, u64) ∷ (capAt 3, u64) ∷ (capAt 4, u64) ∷ (rowSizeAt, u32) ∷ (capacityAt, u32) ∷ [] ≡ headerPlaces
   pub rowNames : (statusAt, u8) ∷ (lengthAt, u8) ∷ (utiAt, utiSize) ∷ (identifierAt, u64) ∷ (termsAt, termsSize) ∷ (tailAt, tailSize) ∷ [] ≡ rowPlaces
   -- the sizes
   pub lineSized : lineSize ≡ 146

@@ -53,7 +53,8 @@ pub extern "C" fn sdr_open(
 #[no_mangle]
 pub extern "C" fn sdr_submit(ledger: &mut [u8], tape: &mut [u8], message: &[u8]) -> u64
     ensures { λ r. ⌜ answerIn r ≡ submissionAnswer (submitted documentLimits (lentOf (now (ledger .entry)) (now (tape .entry))) (now (message .entry))) ⌝ }
-    ensures { λ _. ⌜ lentOf (now (ledger .exit)) (now (tape .exit)) ≡ submitted documentLimits (lentOf (now (ledger .entry)) (now (tape .entry))) (now (message .entry)) .lent ⌝ }
+    ensures { λ _. ⌜ lentOf (now (ledger .exit)) (now (tape .exit))
+        ≡ submitted documentLimits (lentOf (now (ledger .entry)) (now (tape .entry))) (now (message .entry)) .lent ⌝ }
     ensures { λ _. ⌜ Submission-demands ⌝ }
 {
     let a = submit(ledger, tape, message, LONGEST_MESSAGE, LARGEST_CAPACITY);

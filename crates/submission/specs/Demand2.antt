@@ -81,14 +81,22 @@ pub record LedgerWritten (a : Action) (l m l′ : Bytes) : Type 0 where
   pub identifier : identifierOf (rowAt l′ (placeFor a l m)) ≡ choose (writesLine a) (nextIdentifier l) (identifierOf (rowAt l (placeFor a l m)))
   pub terms : storedTerms (rowAt l′ (placeFor a l m)) ≡ choose (isFull a) (maskedTerms (capsIn l) m) (storedTerms (rowAt l (placeFor a l m)))
   -- only NEWT writes length, UTI and padding, and the last bytes
-  pub name : isNew a ≡ false → part (rowAt l′ (placeFor a l m)) lengthAt (identifierAt - lengthAt) ≡ part (rowAt l (placeFor a l m)) lengthAt (identifierAt - lengthAt)
+  pub name :
+      isNew a ≡ false
+      → part (rowAt l′ (placeFor a l m)) lengthAt (identifierAt - lengthAt)
+      ≡ part (rowAt l (placeFor a l m)) lengthAt (identifierAt - lengthAt)
   pub tail : isNew a ≡ false → part (rowAt l′ (placeFor a l m)) tailAt tailSize ≡ part (rowAt l (placeFor a l m)) tailAt tailSize
   -- NEWT raises rows in use by one; a line raises the next identifier by one
   pub rows : rowsInUse l′ ≡ choose (isNew a) (rowsInUse l + 1) (rowsInUse l)
   pub next : nextIdentifier l′ ≡ choose (writesLine a) (nextIdentifier l + 1) (nextIdentifier l)
   -- nothing else moves
   pub long : length l′ ≡ length l
-  pub others : (i : ℕ) → Outside (rowStart (placeFor a l m)) rowSize i → (isNew a ≡ true → Outside rowsAt u32 i) → (writesLine a ≡ true → Outside nextAt u64 i) → getD l′ i 0 ≡ getD l i 0
+  pub others :
+      (i : ℕ)
+      → Outside (rowStart (placeFor a l m)) rowSize i
+      → (isNew a ≡ true → Outside rowsAt u32 i)
+      → (writesLine a ≡ true → Outside nextAt u64 i)
+      → getD l′ i 0 ≡ getD l i 0
 
 -- the line at the front of the tape buffer, and every later byte; PRTO writes no byte
 pub record TapeWritten (a : Action) (l t m t′ : Bytes) : Type 0 where
@@ -134,7 +142,8 @@ Opening-writes = (limits : Limits) (caps : Caps) (l : Bytes) → opened limits c
 
 -- what opening wrote passes 3
 abbrev pub Opening-passes-under : Limits → Type 0
-Opening-passes-under limits = (caps : Caps) (l : Bytes) → opened limits caps l .verdict ≡ 0 → headerRight (limits .largest) (opened limits caps l .ledger) ≡ true
+Opening-passes-under limits =
+    (caps : Caps) (l : Bytes) → opened limits caps l .verdict ≡ 0 → headerRight (limits .largest) (opened limits caps l .ledger) ≡ true
 
 -- under any limits whose largest capacity the header's field can hold
 abbrev pub Opening-passes : Type 0

@@ -59,7 +59,11 @@ pub record Alike (caps : Caps) (js ks : List Judgement) : Type 0 where
   pub shown : (i : ℕ) → AcceptedAt js i → SameShown (messageAt js i) (messageAt ks i)
   pub terms : (i : ℕ) → AcceptedAt js i → maskedTermsAt caps js i ≡ maskedTermsAt caps ks i
   -- two of them name the same swap exactly where their partners do
-  pub swaps : (i j : ℕ) → AcceptedAt js i → AcceptedAt js j → (swapOf (messageAt js i) ≡ swapOf (messageAt js j)) ↔ (swapOf (messageAt ks i) ≡ swapOf (messageAt ks j))
+  pub swaps :
+      (i j : ℕ)
+      → AcceptedAt js i
+      → AcceptedAt js j
+      → (swapOf (messageAt js i) ≡ swapOf (messageAt js j)) ↔ (swapOf (messageAt ks i) ≡ swapOf (messageAt ks j))
 
 -- ---- the claim
 
