@@ -82,7 +82,7 @@ extern "C" {
  * A date is YYYY-MM-DD, from the year 1900 on. A time is a date, T, hh:mm:ss and Z. A truth is True, False, true or false.
  */
 
-#define SDR_ELEMENT_COUNT 25 /* the codes are 1 up to this */
+#define SDR_LAST_CODE 25 /* the codes are 1 up to this */
 
 enum sdr_element_code {
     SDR_UTI = 1,                      /* all; 21 to 52 capitals or digits; names the swap */
@@ -95,7 +95,7 @@ enum sdr_element_code {
     SDR_EXPIRATION_DATE = 8,          /* full; date */
     SDR_SETTLEMENT_DATE = 9,          /* full; date; the final contractual settlement */
     SDR_CLEARED = 10,                 /* full; Y, N or I */
-    SDR_NON_STANDARDIZED = 11,        /* if 10 is N; truth */
+    SDR_NON_STANDARDIZED_TERM = 11,   /* if 10 is N; truth */
     SDR_BLOCK_ELECTION = 12,          /* full; truth */
     SDR_LARGE_NOTIONAL_ELECTION = 13, /* full; truth */
     SDR_ALLOCATION = 14,              /* full; POST, PREA or UNAL */

@@ -1,7 +1,7 @@
 //! Messages with one fault, which the rules 5 to 13 refuse.
 
 use crate::messages::set_package;
-use compare::message::{Message, COUNT_SIZE, ENTRY_SIZE, HIGHEST_CODE};
+use compare::message::{Message, COUNT_SIZE, ENTRY_SIZE, LAST_CODE};
 use compare::random::Random;
 
 /// Where the first entry's offset and the second entry's code stand.
@@ -10,10 +10,10 @@ const SECOND_CODE: usize = COUNT_SIZE + ENTRY_SIZE;
 
 /// Verdict 5: one of four wrong layouts, by number. The first two show in the
 /// first bytes, the others only when the entries have been read.
-pub fn wrong_layout(number: usize, message: &Message) -> Vec<u8> {
+pub fn layout_wrong(number: usize, message: &Message) -> Vec<u8> {
     let mut bytes = message.encode();
     match number % 4 {
-        0 => bytes[0] = HIGHEST_CODE + 1,
+        0 => bytes[0] = LAST_CODE + 1,
         1 => bytes[FIRST_OFFSET] += 1,
         2 => bytes[SECOND_CODE] = 1,
         _ => {
@@ -28,7 +28,7 @@ pub fn wrong_layout(number: usize, message: &Message) -> Vec<u8> {
 }
 
 /// Verdict 6: no action or none of the seven, by number.
-pub fn unknown_action(number: usize, message: &Message) -> Message {
+pub fn action_wrong(number: usize, message: &Message) -> Message {
     match ["", "newt", "NEW", "NEWTS", "OPEN", "NEWX"][number % 6] {
         "" => message.without(2),
         action => message.with(2, action),
@@ -36,7 +36,7 @@ pub fn unknown_action(number: usize, message: &Message) -> Message {
 }
 
 /// Verdict 13: one of the three disorders, by number.
-pub fn disordered(number: usize, message: &Message) -> Message {
+pub fn dates_disordered(number: usize, message: &Message) -> Message {
     match number % 3 {
         0 => message.with(8, "2026-03-31"),
         1 => message.with(9, "2026-04-30"),
@@ -49,9 +49,9 @@ pub fn any(random: &mut Random, full: &Message) -> (Vec<u8>, u8) {
     let number = random.below(12);
     let mut changed = full.clone();
     let verdict = match random.below(8) {
-        0 => return (wrong_layout(number, full), 5),
+        0 => return (layout_wrong(number, full), 5),
         1 => {
-            changed = unknown_action(number, full);
+            changed = action_wrong(number, full);
             6
         }
         2 => {
@@ -59,7 +59,7 @@ pub fn any(random: &mut Random, full: &Message) -> (Vec<u8>, u8) {
             7
         }
         3 => {
-            break_form(number, &mut changed);
+            changed = form_broken(number, full);
             9
         }
         4 => {
@@ -77,7 +77,7 @@ pub fn any(random: &mut Random, full: &Message) -> (Vec<u8>, u8) {
             12
         }
         _ => {
-            changed = disordered(number, full);
+            changed = dates_disordered(number, full);
             13
         }
     };
@@ -85,16 +85,16 @@ pub fn any(random: &mut Random, full: &Message) -> (Vec<u8>, u8) {
 }
 
 /// Verdict 9: a value that is wrong the way such values are.
-fn break_form(number: usize, message: &mut Message) {
+fn form_broken(number: usize, message: &Message) -> Message {
     match number % 4 {
-        0 => message.set(20, "1,250,000"),
-        1 => message.set(7, "2026-02-30"),
-        2 => message.set(24, "549300NOTANLEINUMB99"),
-        _ => message.set(21, "usd"),
-    };
+        0 => message.with(20, "1,250,000"),
+        1 => message.with(7, "2026-02-30"),
+        2 => message.with(24, "549300NOTANLEINUMB99"),
+        _ => message.with(21, "usd"),
+    }
 }
 
 /// Verdict 8: a sound short message with an element that it does not take.
-pub fn with_terms(short: &Message) -> Message {
+pub fn element_not_taken(short: &Message) -> Message {
     short.with(20, "1250000")
 }

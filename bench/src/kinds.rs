@@ -49,8 +49,8 @@ pub struct Case {
 pub enum Kind {
     AcceptedNew,
     LayoutWrong,
-    UnknownAction,
-    Disordered,
+    ActionWrong,
+    DatesDisordered,
     KnownSwap,
     TermLast,
     MixedDay,
@@ -60,8 +60,8 @@ impl Kind {
     pub const ALL: [Kind; 7] = [
         Kind::AcceptedNew,
         Kind::LayoutWrong,
-        Kind::UnknownAction,
-        Kind::Disordered,
+        Kind::ActionWrong,
+        Kind::DatesDisordered,
         Kind::KnownSwap,
         Kind::TermLast,
         Kind::MixedDay,
@@ -71,8 +71,8 @@ impl Kind {
         match self {
             Kind::AcceptedNew => "NEWT accepted",
             Kind::LayoutWrong => "layout wrong (verdict 5)",
-            Kind::UnknownAction => "action unknown (verdict 6)",
-            Kind::Disordered => "dates disordered (verdict 13)",
+            Kind::ActionWrong => "action wrong (verdict 6)",
+            Kind::DatesDisordered => "dates disordered (verdict 13)",
             Kind::KnownSwap => "NEWT of the last row's swap (verdict 15)",
             Kind::TermLast => "TERM of the last row accepted",
             Kind::MixedDay => "mixed day",
@@ -99,13 +99,13 @@ impl Kind {
                 sound_new(random, &unknown(number)).encode()
             }),
             Kind::LayoutWrong => each(count, LAYOUT_WRONG, PutBack::Nothing, |number| {
-                faults::wrong_layout(number, &sound_new(random, &unknown(number)))
+                faults::layout_wrong(number, &sound_new(random, &unknown(number)))
             }),
-            Kind::UnknownAction => each(count, ACTION_WRONG, PutBack::Nothing, |number| {
-                faults::unknown_action(number, &sound_new(random, &unknown(number))).encode()
+            Kind::ActionWrong => each(count, ACTION_WRONG, PutBack::Nothing, |number| {
+                faults::action_wrong(number, &sound_new(random, &unknown(number))).encode()
             }),
-            Kind::Disordered => each(count, DATES_DISORDERED, PutBack::Nothing, |number| {
-                faults::disordered(number, &sound_new(random, &unknown(number))).encode()
+            Kind::DatesDisordered => each(count, DATES_DISORDERED, PutBack::Nothing, |number| {
+                faults::dates_disordered(number, &sound_new(random, &unknown(number))).encode()
             }),
             Kind::KnownSwap => each(count, NOT_ADMITTED, PutBack::Nothing, |_| {
                 sound_new(random, &ledger.uti(last)).encode()

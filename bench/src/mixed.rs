@@ -69,7 +69,7 @@ impl Mixed {
         let uti = self.new_uti();
         let random = &mut self.random;
         if random.once_in(9) {
-            let message = faults::with_terms(&sound(random, "TERM", &uti, ""));
+            let message = faults::element_not_taken(&sound(random, "TERM", &uti, ""));
             return refused(message, sdr::ELEMENT_NOT_TAKEN);
         }
         let full = sound_new(random, &uti);

@@ -27,7 +27,7 @@ COUNT_SIZE = 2
 ENTRY_SIZE = 4
 MOST_ENTRIES = 25
 LOWEST_CODE = 1
-HIGHEST_CODE = 25
+LAST_CODE = 25
 
 
 def u16(message, at):
@@ -54,7 +54,7 @@ def header(message):
     places = range(COUNT_SIZE, header_size, ENTRY_SIZE)
     codes = [u16(message, place) for place in places]
     offsets = [u16(message, place + 2) for place in places]
-    if not all(LOWEST_CODE <= code <= HIGHEST_CODE for code in codes):
+    if not all(LOWEST_CODE <= code <= LAST_CODE for code in codes):
         return None
     if not rises_strictly(codes):
         return None
@@ -123,7 +123,7 @@ def is_allocation(value):
 
 
 # Elements, code 16
-def is_package(value):
+def is_package_identifier(value):
     return (PACKAGE_SHORTEST <= len(value) <= PACKAGE_LONGEST
             and only(value, CAPITALS + SMALL_LETTERS + DIGITS))
 
@@ -144,7 +144,7 @@ def is_location(value):
 
 
 # Elements, code 25
-def is_class(value):
+def is_asset_class(value):
     return value in [b"CR", b"IR", b"FX", b"EQ", b"CO"]
 
 
@@ -270,23 +270,23 @@ FORM_OF_CODE = {
     1: is_uti, 2: is_action, 3: is_event, 4: is_time, 5: is_time, 6: is_time,
     7: is_date, 8: is_date, 9: is_date, 10: is_cleared, 11: is_truth,
     12: is_truth, 13: is_truth, 14: is_allocation, 15: is_truth,
-    16: is_package, 17: is_price, 18: is_notation, 19: is_currency,
+    16: is_package_identifier, 17: is_price, 18: is_notation, 19: is_currency,
     20: is_notional, 21: is_currency, 22: is_location, 23: is_lei, 24: is_lei,
-    25: is_class,
+    25: is_asset_class,
 }
 
 
 # ------------------------------------------------- Elements: actions and codes
 
-HIGHEST_CODE_OF_OTHERS = 5
+LAST_SHORT = 5
 NEEDED_BY_ALL = [1, 2, 4, 5]
 NEEDED_BY_FULL = [6, 7, 8, 9, 10, 12, 13, 14, 15, 20, 21, 23, 24, 25]
 
 
 # Elements, "TERM, EROR and PRTO take codes 1 to 5 only"
 def takes(action, code):
-    highest = HIGHEST_CODE if action in FULL_ACTIONS else HIGHEST_CODE_OF_OTHERS
-    return LOWEST_CODE <= code <= highest
+    last = LAST_CODE if action in FULL_ACTIONS else LAST_SHORT
+    return LOWEST_CODE <= code <= last
 
 
 # Elements, column "Needed": "all" and "full" alone (verdict 7)
@@ -383,8 +383,8 @@ BANDS = [
 ]
 STEP_FROM_THERE = 50_000_000_000
 LEAST_SHOWN = 5
-LOWEST_CAP = 1_000
-HIGHEST_CAP = 1_000_000_000_000_000
+SMALLEST_CAP = 1_000
+LARGEST_CAP = 1_000_000_000_000_000
 
 
 def exact_amount(value):
@@ -409,7 +409,7 @@ def rounded_amount(exact):
 
 # The masked notional: "itself a rounded amount" (verdict 2)
 def is_cap(number):
-    return (LOWEST_CAP <= number <= HIGHEST_CAP
+    return (SMALLEST_CAP <= number <= LARGEST_CAP
             and rounded_amount(number * ONE) == number)
 
 
@@ -542,7 +542,7 @@ CAPACITY = (60, 4)
 HEADER_SIZE = 64
 ROW_SIZE = 160
 LOWEST_NEXT = 1
-HIGHEST_NEXT = 1_000_000_000_000
+IDENTIFIER_LIMIT = 1_000_000_000_000
 CLASSES_IN_ORDER = [b"CR", b"IR", b"FX", b"EQ", b"CO"]
 
 # The ledger: the row's parts by offset; the zeros are the last five bytes
@@ -663,7 +663,7 @@ def ledger_is_refused(largest, ledger):
         return True
     if number_in(ledger, FIRST_ROW) != HEADER_SIZE:
         return True
-    if not LOWEST_NEXT <= number_in(ledger, NEXT_IDENTIFIER) <= HIGHEST_NEXT:
+    if not LOWEST_NEXT <= number_in(ledger, NEXT_IDENTIFIER) <= IDENTIFIER_LIMIT:
         return True
     if number_in(ledger, ROW_SIZE_FIELD) != ROW_SIZE:
         return True
@@ -763,14 +763,14 @@ FORMS = {
     b"cleared": is_cleared,
     b"truth": is_truth,
     b"allocation": is_allocation,
-    b"package": is_package,
+    b"package": is_package_identifier,
     b"price": is_price,
     b"notation": is_notation,
     b"currency": is_currency,
     b"notional": is_notional,
     b"location": is_location,
     b"lei": is_lei,
-    b"class": is_class,
+    b"class": is_asset_class,
     b"action": is_action,
 }
 
@@ -863,9 +863,9 @@ def answer_line(rest):
 
 
 def read_cap(text):
-    cap = read_number(text, HIGHEST_CAP)
-    if cap < LOWEST_CAP:
-        raise Malformed("a cap is below %d" % LOWEST_CAP)
+    cap = read_number(text, LARGEST_CAP)
+    if cap < SMALLEST_CAP:
+        raise Malformed("a cap is below %d" % SMALLEST_CAP)
     return cap
 
 
@@ -956,7 +956,7 @@ def answer_raise(rest):
     action, text = read_fields(rest, [2])
     ledger = read_hex(text)
     if (action not in ACTIONS or len(ledger) < HEADER_SIZE
-            or number_in(ledger, NEXT_IDENTIFIER) > HIGHEST_NEXT):
+            or number_in(ledger, NEXT_IDENTIFIER) > IDENTIFIER_LIMIT):
         return NO_QUESTION
     if action == b"NEWT" and number_in(ledger, ROWS_IN_USE) == HIGHEST_U32:
         raise Malformed("rows in use cannot rise")

@@ -23,7 +23,7 @@ static uint8_t tape[SDR_LINE_SIZE];
 
 /* The values of a message by element code, NULL where an element is not sent. */
 struct report {
-    const char *value[SDR_ELEMENT_COUNT + 1];
+    const char *value[SDR_LAST_CODE + 1];
 };
 
 /* ---- Building messages ---- */
@@ -40,12 +40,12 @@ static size_t encode(const struct report *report, uint8_t out[SDR_LONGEST_MESSAG
 {
     size_t code, count = 0, entry = 2, end;
 
-    for (code = 1; code <= SDR_ELEMENT_COUNT; code++)
+    for (code = 1; code <= SDR_LAST_CODE; code++)
         if (report->value[code] != NULL)
             count++;
     put_u16(out, count);
     end = 2 + 4 * count;
-    for (code = 1; code <= SDR_ELEMENT_COUNT; code++) {
+    for (code = 1; code <= SDR_LAST_CODE; code++) {
         const char *text = report->value[code];
         size_t length = text == NULL ? 0 : strlen(text);
 
@@ -68,7 +68,7 @@ static struct report brief(const char *uti, const char *action, const char *even
     struct report report;
     size_t code;
 
-    for (code = 0; code <= SDR_ELEMENT_COUNT; code++)
+    for (code = 0; code <= SDR_LAST_CODE; code++)
         report.value[code] = NULL;
     report.value[SDR_UTI] = uti;
     report.value[SDR_ACTION_TYPE] = action;
@@ -88,7 +88,7 @@ static struct report full(const char *uti, const char *action, const char *event
     report.value[SDR_EXPIRATION_DATE] = "2030-03-05";
     report.value[SDR_SETTLEMENT_DATE] = "2030-03-07";
     report.value[SDR_CLEARED] = "N";
-    report.value[SDR_NON_STANDARDIZED] = "false";
+    report.value[SDR_NON_STANDARDIZED_TERM] = "false";
     report.value[SDR_BLOCK_ELECTION] = "False";
     report.value[SDR_LARGE_NOTIONAL_ELECTION] = "True";
     report.value[SDR_ALLOCATION] = "UNAL";
@@ -209,7 +209,7 @@ static struct report package(void)
     struct report report = full(SECOND, "NEWT", "TRAD", "2025-03-06T10:00:00Z");
 
     report.value[SDR_CLEARED] = "Y";
-    report.value[SDR_NON_STANDARDIZED] = NULL;
+    report.value[SDR_NON_STANDARDIZED_TERM] = NULL;
     report.value[SDR_PACKAGE_INDICATOR] = "true";
     report.value[SDR_PACKAGE_IDENTIFIER] = "Package7";
     report.value[SDR_PACKAGE_PRICE] = "-0012.50";

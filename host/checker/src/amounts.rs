@@ -4,7 +4,7 @@
 //! amount has at most 25 digits, so the count is below 10 to the 30th, and a
 //! u128 goes past 10 to the 38th.
 
-use crate::forms::{is_amount, split_at_point};
+use crate::forms::{is_notional, split_at_point};
 
 /// Hundred-thousandths in one unit.
 const PARTS: u128 = 100_000;
@@ -28,18 +28,19 @@ const LAST_STEP: u64 = 50_000_000_000;
 /// "never shown below 5"
 const LEAST_SHOWN: u128 = 5;
 
-const LEAST_CAP: u64 = 1_000;
-const GREATEST_CAP: u64 = 1_000_000_000_000_000;
+const SMALLEST_CAP: u64 = 1_000;
+const LARGEST_CAP: u64 = 1_000_000_000_000_000;
 
 /// Rule 2: a cap is in its range and its own rounded amount.
 pub fn is_cap(cap: u64) -> bool {
-    (LEAST_CAP..=GREATEST_CAP).contains(&cap) && rounded(u128::from(cap) * PARTS) == u128::from(cap)
+    (SMALLEST_CAP..=LARGEST_CAP).contains(&cap)
+        && rounded(u128::from(cap) * PARTS) == u128::from(cap)
 }
 
 /// The amount shown, in units, and whether a plus sign shows. None where the
 /// bytes are not an amount.
 pub fn masked(amount: &[u8], cap: u64) -> Option<(u64, bool)> {
-    is_amount(amount).then(|| masked_amount(amount, cap))
+    is_notional(amount).then(|| masked_amount(amount, cap))
 }
 
 /// The same for bytes already found to be an amount.

@@ -61,7 +61,7 @@ struct Day {
 
 impl Day {
     fn open() -> Day {
-        let mut ledger = vec![0; sizes::ledger(DAY_ROWS)];
+        let mut ledger = vec![0; sizes::ledger_size(DAY_ROWS)];
         let verdict = open(&mut ledger, &CAPS);
         assert_eq!(verdict, 0, "these rows and caps are admitted");
         Day {

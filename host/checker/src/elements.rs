@@ -1,42 +1,42 @@
 //! Section "Elements": the table of codes, and the seven actions.
 
 use crate::forms::{
-    is_allocation, is_amount, is_asset_class, is_capitals, is_cleared, is_date, is_lei,
-    is_notation, is_package_identifier, is_price, is_time, is_true, is_truth, is_uti,
+    is_allocation, is_asset_class, is_capitals, is_cleared, is_date, is_lei, is_notation,
+    is_notional, is_package_identifier, is_price, is_time, is_true, is_truth, is_uti,
 };
 use crate::message::Values;
 
 /// Codes run from 1 to this.
-pub const HIGHEST_CODE: u16 = 25;
+pub const LAST_CODE: u16 = 25;
 
 pub const UTI: u16 = 1;
-pub const ACTION: u16 = 2;
-pub const EVENT: u16 = 3;
-pub const EVENT_TIME: u16 = 4;
-pub const REPORTING_TIME: u16 = 5;
-pub const EXECUTION_TIME: u16 = 6;
-pub const EFFECTIVE: u16 = 7;
-pub const EXPIRATION: u16 = 8;
-pub const SETTLEMENT: u16 = 9;
+pub const ACTION_TYPE: u16 = 2;
+pub const EVENT_TYPE: u16 = 3;
+pub const EVENT_TIMESTAMP: u16 = 4;
+pub const REPORTING_TIMESTAMP: u16 = 5;
+pub const EXECUTION_TIMESTAMP: u16 = 6;
+pub const EFFECTIVE_DATE: u16 = 7;
+pub const EXPIRATION_DATE: u16 = 8;
+pub const SETTLEMENT_DATE: u16 = 9;
 pub const CLEARED: u16 = 10;
-pub const NON_STANDARDIZED: u16 = 11;
-pub const BLOCK: u16 = 12;
-pub const LARGE: u16 = 13;
+pub const NON_STANDARDIZED_TERM: u16 = 11;
+pub const BLOCK_ELECTION: u16 = 12;
+pub const LARGE_NOTIONAL_ELECTION: u16 = 13;
 pub const ALLOCATION: u16 = 14;
-pub const PACKAGE: u16 = 15;
+pub const PACKAGE_INDICATOR: u16 = 15;
 pub const PACKAGE_IDENTIFIER: u16 = 16;
-pub const PRICE: u16 = 17;
-pub const NOTATION: u16 = 18;
+pub const PACKAGE_PRICE: u16 = 17;
+pub const PRICE_NOTATION: u16 = 18;
 pub const PRICE_CURRENCY: u16 = 19;
-pub const NOTIONAL: u16 = 20;
+pub const NOTIONAL_AMOUNT: u16 = 20;
 pub const NOTIONAL_CURRENCY: u16 = 21;
-pub const LOCATION: u16 = 22;
+pub const SETTLEMENT_LOCATION: u16 = 22;
 pub const COUNTERPARTY_1: u16 = 23;
 pub const COUNTERPARTY_2: u16 = 24;
 pub const ASSET_CLASS: u16 = 25;
 
 /// "TERM, EROR and PRTO take codes 1 to 5 only."
-pub const HIGHEST_CODE_NOT_FULL: u16 = 5;
+pub const LAST_SHORT: u16 = 5;
 
 /// Column "Needed". "By pair" is rule 10, the "if" entries are rule 11.
 #[derive(Clone, Copy, PartialEq, Eq)]
@@ -50,10 +50,14 @@ pub enum Needed {
 
 pub fn needed(code: u16) -> Needed {
     match code {
-        UTI | ACTION | EVENT_TIME | REPORTING_TIME => Needed::All,
-        EVENT => Needed::ByPair,
-        NON_STANDARDIZED | PACKAGE_IDENTIFIER | PRICE | NOTATION | PRICE_CURRENCY => Needed::If,
-        LOCATION => Needed::Optional,
+        UTI | ACTION_TYPE | EVENT_TIMESTAMP | REPORTING_TIMESTAMP => Needed::All,
+        EVENT_TYPE => Needed::ByPair,
+        NON_STANDARDIZED_TERM
+        | PACKAGE_IDENTIFIER
+        | PACKAGE_PRICE
+        | PRICE_NOTATION
+        | PRICE_CURRENCY => Needed::If,
+        SETTLEMENT_LOCATION => Needed::Optional,
         _ => Needed::Full,
     }
 }
@@ -65,19 +69,19 @@ pub fn is_not_cleared(values: &Values) -> bool {
 
 /// "if 15 is true": the condition of codes 16, 17 and 18.
 pub fn is_package(values: &Values) -> bool {
-    values.get(PACKAGE).is_some_and(is_true)
+    values.get(PACKAGE_INDICATOR).is_some_and(is_true)
 }
 
 /// "if 15 is true and 18 is 1": the condition of code 19.
 pub fn has_price_currency(values: &Values) -> bool {
-    is_package(values) && values.get(NOTATION) == Some(b"1")
+    is_package(values) && values.get(PRICE_NOTATION) == Some(b"1")
 }
 
 /// Column "Needed", the "if" entries: the condition of a code is met.
 pub fn is_due(code: u16, values: &Values) -> bool {
     match code {
-        NON_STANDARDIZED => is_not_cleared(values),
-        PACKAGE_IDENTIFIER | PRICE | NOTATION => is_package(values),
+        NON_STANDARDIZED_TERM => is_not_cleared(values),
+        PACKAGE_IDENTIFIER | PACKAGE_PRICE | PRICE_NOTATION => is_package(values),
         PRICE_CURRENCY => has_price_currency(values),
         _ => false,
     }
@@ -87,19 +91,21 @@ pub fn is_due(code: u16, values: &Values) -> bool {
 pub fn has_form(code: u16, v: &[u8]) -> bool {
     match code {
         UTI => is_uti(v),
-        ACTION => Action::read(v).is_some(),
-        EVENT => is_capitals(v, 4),
-        EVENT_TIME | REPORTING_TIME | EXECUTION_TIME => is_time(v),
-        EFFECTIVE | EXPIRATION | SETTLEMENT => is_date(v),
+        ACTION_TYPE => Action::read(v).is_some(),
+        EVENT_TYPE => is_capitals(v, 4),
+        EVENT_TIMESTAMP | REPORTING_TIMESTAMP | EXECUTION_TIMESTAMP => is_time(v),
+        EFFECTIVE_DATE | EXPIRATION_DATE | SETTLEMENT_DATE => is_date(v),
         CLEARED => is_cleared(v),
-        NON_STANDARDIZED | BLOCK | LARGE | PACKAGE => is_truth(v),
+        NON_STANDARDIZED_TERM | BLOCK_ELECTION | LARGE_NOTIONAL_ELECTION | PACKAGE_INDICATOR => {
+            is_truth(v)
+        }
         ALLOCATION => is_allocation(v),
         PACKAGE_IDENTIFIER => is_package_identifier(v),
-        PRICE => is_price(v),
-        NOTATION => is_notation(v),
+        PACKAGE_PRICE => is_price(v),
+        PRICE_NOTATION => is_notation(v),
         PRICE_CURRENCY | NOTIONAL_CURRENCY => is_capitals(v, 3),
-        NOTIONAL => is_amount(v),
-        LOCATION => is_capitals(v, 2),
+        NOTIONAL_AMOUNT => is_notional(v),
+        SETTLEMENT_LOCATION => is_capitals(v, 2),
         COUNTERPARTY_1 | COUNTERPARTY_2 => is_lei(v),
         ASSET_CLASS => is_asset_class(v),
         _ => false,

@@ -145,7 +145,7 @@ pub fn is_capitals(v: &[u8], count: usize) -> bool {
 }
 
 /// Code 20: Num(25,5), no minus.
-pub fn is_amount(v: &[u8]) -> bool {
+pub fn is_notional(v: &[u8]) -> bool {
     is_num(v, 25, 5)
 }
 

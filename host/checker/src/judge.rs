@@ -1,7 +1,7 @@
 //! The three operations: open a ledger, submit one message, ask the status of
 //! one swap.
 
-use crate::elements::{Action, ACTION, EVENT, EVENT_TIME, UTI};
+use crate::elements::{Action, ACTION_TYPE, EVENT_TIMESTAMP, EVENT_TYPE, UTI};
 use crate::forms::is_uti;
 use crate::ledger::{
     add_row, change_row, end_row, find, port_row, raise_next_identifier, row_at, write_header,
@@ -10,16 +10,17 @@ use crate::ledger::{
 use crate::line::{masked_terms, write_line, Lead};
 use crate::message::Values;
 use crate::rules::{
-    refusal_at, rule_10_pair, rule_11_conditional, rule_12_price, rule_13_order, rule_14_row,
-    rule_15_status, rule_16_execution_time, rule_17_capacity, rule_18_identifiers, rule_1_buffer,
-    rule_2_caps, rule_3_ledger, rule_4_tape, rule_5_layout, rule_6_action, rule_7_needed,
-    rule_8_above_5, rule_9_forms, Answer, Judged,
+    refusal_at, rule_10_not_a_pair, rule_11_conditional_missing, rule_12_price_too_long,
+    rule_13_dates_disordered, rule_14_row_wrong, rule_15_not_admitted, rule_16_other_time,
+    rule_17_ledger_full, rule_18_identifiers_spent, rule_1_ledger_short, rule_2_cap_wrong,
+    rule_3_ledger_wrong, rule_4_tape_short, rule_5_layout_wrong, rule_6_action_wrong,
+    rule_7_element_missing, rule_8_element_not_taken, rule_9_form_broken, Answer, Judged,
 };
 
 /// Opens a ledger over a lent buffer. The caps are in the order CR, IR, FX,
 /// EQ, CO. Answers the verdict.
 pub fn open(ledger: &mut [u8], caps: &[u64; 5]) -> u8 {
-    if let Err(answer) = rule_1_buffer(ledger).and_then(|()| rule_2_caps(caps)) {
+    if let Err(answer) = rule_1_ledger_short(ledger).and_then(|()| rule_2_cap_wrong(caps)) {
         return answer.verdict;
     }
     write_header(ledger, caps);
@@ -43,14 +44,14 @@ pub fn status(ledger: &[u8], uti: &[u8]) -> Answer {
 }
 
 fn ask(ledger: &[u8], uti: &[u8]) -> Judged<Answer> {
-    let header = rule_3_ledger(ledger)?;
+    let header = rule_3_ledger_wrong(ledger)?;
     if !is_uti(uti) {
         return Err(refusal_at(9, UTI));
     }
     let Some((_, row)) = find(ledger, &header, uti) else {
         return Ok(Answer::default());
     };
-    rule_14_row(Some(row), &header)?;
+    rule_14_row_wrong(Some(row), &header)?;
     Ok(Answer {
         status: row.status(),
         identifier: row.identifier(),
@@ -70,24 +71,24 @@ struct Accepted<'a> {
 
 /// Rules 3 to 18, in checking order. Nothing is written.
 fn judge<'a>(ledger: &[u8], tape: &[u8], message: &'a [u8]) -> Judged<Accepted<'a>> {
-    let header = rule_3_ledger(ledger)?;
-    rule_4_tape(tape)?;
-    let values = rule_5_layout(message)?;
-    let action = rule_6_action(&values)?;
-    rule_7_needed(&values, action)?;
-    rule_8_above_5(&values, action)?;
-    rule_9_forms(&values)?;
-    rule_10_pair(&values)?;
-    rule_11_conditional(&values)?;
-    rule_12_price(&values)?;
-    rule_13_order(&values, action)?;
+    let header = rule_3_ledger_wrong(ledger)?;
+    rule_4_tape_short(tape)?;
+    let values = rule_5_layout_wrong(message)?;
+    let action = rule_6_action_wrong(&values)?;
+    rule_7_element_missing(&values, action)?;
+    rule_8_element_not_taken(&values, action)?;
+    rule_9_form_broken(&values)?;
+    rule_10_not_a_pair(&values)?;
+    rule_11_conditional_missing(&values)?;
+    rule_12_price_too_long(&values)?;
+    rule_13_dates_disordered(&values, action)?;
     let found = find(ledger, &header, values.present(UTI));
     let row = found.map(|(_, row)| row);
-    rule_14_row(row, &header)?;
-    let new_status = rule_15_status(row, action)?;
-    rule_16_execution_time(row, &values, action)?;
-    rule_17_capacity(&header, action)?;
-    rule_18_identifiers(&header, action)?;
+    rule_14_row_wrong(row, &header)?;
+    let new_status = rule_15_not_admitted(row, action)?;
+    rule_16_other_time(row, &values, action)?;
+    rule_17_ledger_full(&header, action)?;
+    rule_18_identifiers_spent(&header, action)?;
     Ok(Accepted {
         header,
         values,
@@ -110,9 +111,9 @@ fn carry_out(ledger: &mut [u8], tape: &mut [u8], accepted: &Accepted) -> Answer 
     let lead = Lead {
         identifier: header.next_identifier,
         previous: row.map(|(_, identifier)| identifier),
-        action: values.present(ACTION),
-        event: values.get(EVENT),
-        event_time: values.present(EVENT_TIME),
+        action: values.present(ACTION_TYPE),
+        event: values.get(EVENT_TYPE),
+        event_time: values.present(EVENT_TIMESTAMP),
     };
     match (action, *row) {
         (Action::Prto, Some((place, _))) => {

@@ -1,10 +1,10 @@
 //! Section "The ledger".
 
 use crate::amounts::is_cap;
-use crate::sizes::{self, header, row, GREATEST_CAPACITY, SHORTEST_LEDGER, TERMS, TIME};
+use crate::sizes::{self, header, row, LARGEST_CAPACITY, SHORTEST_LEDGER, TERMS, TIME};
 
-/// "next identifier, 1 to 1,000,000,000,000"; the last one is never given.
-pub const LAST_NEXT_IDENTIFIER: u64 = 1_000_000_000_000;
+/// "next identifier, 1 to 1,000,000,000,000"; no line takes the last one.
+pub const IDENTIFIER_LIMIT: u64 = 1_000_000_000_000;
 
 pub const UNKNOWN: u8 = 0;
 pub const LIVE: u8 = 1;
@@ -28,7 +28,7 @@ pub fn is_long_enough(ledger: &[u8]) -> bool {
 /// The length without the header "divided by" the row size, "rounded down, or
 /// 100,000 where that is less".
 fn capacity(length: usize) -> u32 {
-    (length.saturating_sub(header::SIZE) / row::SIZE).min(GREATEST_CAPACITY) as u32
+    (length.saturating_sub(header::SIZE) / row::SIZE).min(LARGEST_CAPACITY) as u32
 }
 
 /// "Opening writes the header, with 0 rows in use and next identifier 1, and
@@ -67,7 +67,7 @@ pub fn read_header(ledger: &[u8]) -> Option<Header> {
         capacity: u32_at(ledger, header::CAPACITY),
     };
     let right = u32_at(ledger, header::FIRST_ROW) == header::SIZE as u32
-        && (1..=LAST_NEXT_IDENTIFIER).contains(&header.next_identifier)
+        && (1..=IDENTIFIER_LIMIT).contains(&header.next_identifier)
         && u32_at(ledger, header::ROW_SIZE) == row::SIZE as u32
         && header.capacity == capacity(ledger.len())
         && header.rows <= header.capacity
@@ -111,7 +111,7 @@ impl<'a> Row<'a> {
 /// The header is that of this ledger, so the used rows are inside it; the UTI
 /// has its form.
 pub fn find<'a>(ledger: &'a [u8], header: &Header, uti: &[u8]) -> Option<(usize, Row<'a>)> {
-    let used = &ledger[header::SIZE..sizes::ledger(header.rows as usize)];
+    let used = &ledger[header::SIZE..sizes::ledger_size(header.rows as usize)];
     used.chunks_exact(row::SIZE)
         .map(|bytes| Row { bytes })
         .enumerate()
@@ -121,12 +121,12 @@ pub fn find<'a>(ledger: &'a [u8], header: &Header, uti: &[u8]) -> Option<(usize,
 /// A row the ledger has.
 pub fn row_at(ledger: &[u8], place: usize) -> Row<'_> {
     Row {
-        bytes: &ledger[sizes::ledger(place)..][..row::SIZE],
+        bytes: &ledger[sizes::ledger_size(place)..][..row::SIZE],
     }
 }
 
 fn row_mut(ledger: &mut [u8], place: usize) -> &mut [u8] {
-    &mut ledger[sizes::ledger(place)..][..row::SIZE]
+    &mut ledger[sizes::ledger_size(place)..][..row::SIZE]
 }
 
 /// "NEWT writes the whole next row and raises rows in use by one."
@@ -145,7 +145,7 @@ pub fn add_row(
     put(row, row::UTI, uti);
     put(row, row::IDENTIFIER, &identifier.to_le_bytes());
     put(row, row::TERMS, terms);
-    row[row::ZEROS..].fill(0);
+    row[row::TAIL..].fill(0);
     put(ledger, header::ROWS, &(header.rows + 1).to_le_bytes());
 }
 

@@ -22,8 +22,8 @@ mod rules;
 pub mod sizes;
 
 pub use amounts::{is_cap, masked};
-pub use elements::HIGHEST_CODE;
-pub use forms::{is_amount, is_date, is_lei, is_price, is_time, is_uti};
+pub use elements::LAST_CODE;
+pub use forms::{is_date, is_lei, is_notional, is_price, is_time, is_uti};
 pub use judge::{open, status, submit};
 pub use matrix::is_pair;
 pub use message::{layout_right, value};

@@ -2,9 +2,10 @@
 
 use crate::amounts::masked_amount;
 use crate::elements::{
-    has_price_currency, is_not_cleared, is_package, ASSET_CLASS, BLOCK, CLEARED, EFFECTIVE,
-    EXECUTION_TIME, EXPIRATION, LARGE, LOCATION, NON_STANDARDIZED, NOTATION, NOTIONAL,
-    NOTIONAL_CURRENCY, PACKAGE, PRICE, PRICE_CURRENCY,
+    has_price_currency, is_not_cleared, is_package, ASSET_CLASS, BLOCK_ELECTION, CLEARED,
+    EFFECTIVE_DATE, EXECUTION_TIMESTAMP, EXPIRATION_DATE, LARGE_NOTIONAL_ELECTION,
+    NON_STANDARDIZED_TERM, NOTIONAL_AMOUNT, NOTIONAL_CURRENCY, PACKAGE_INDICATOR, PACKAGE_PRICE,
+    PRICE_CURRENCY, PRICE_NOTATION, SETTLEMENT_LOCATION,
 };
 use crate::forms::{asset_class_place, is_true};
 use crate::message::Values;
@@ -21,21 +22,21 @@ pub fn masked_terms(values: &Values, caps: &[u64; 5]) -> [u8; TERMS] {
         let at = offset - line::TERMS;
         terms[at..at + part.len()].copy_from_slice(part);
     };
-    put(line::EXECUTION_TIME, values.present(EXECUTION_TIME));
-    put(line::EFFECTIVE, values.present(EFFECTIVE));
-    put(line::EXPIRATION, values.present(EXPIRATION));
+    put(line::EXECUTION_TIME, values.present(EXECUTION_TIMESTAMP));
+    put(line::EFFECTIVE, values.present(EFFECTIVE_DATE));
+    put(line::EXPIRATION, values.present(EXPIRATION_DATE));
     put(line::CLEARED, values.present(CLEARED));
     if is_not_cleared(values) {
-        let shown = truth(values.present(NON_STANDARDIZED));
+        let shown = truth(values.present(NON_STANDARDIZED_TERM));
         put(line::NON_STANDARDIZED, shown);
     }
-    put(line::BLOCK, truth(values.present(BLOCK)));
-    put(line::LARGE, truth(values.present(LARGE)));
-    put(line::PACKAGE, truth(values.present(PACKAGE)));
+    put(line::BLOCK, truth(values.present(BLOCK_ELECTION)));
+    put(line::LARGE, truth(values.present(LARGE_NOTIONAL_ELECTION)));
+    put(line::PACKAGE, truth(values.present(PACKAGE_INDICATOR)));
     if is_package(values) {
-        let (field, _) = shown(values.present(PRICE));
-        put(line::PACKAGE_PRICE, &field);
-        put(line::NOTATION, values.present(NOTATION));
+        let (field, _) = shown(values.present(PACKAGE_PRICE));
+        put(line::PRICE, &field);
+        put(line::NOTATION, values.present(PRICE_NOTATION));
     }
     if has_price_currency(values) {
         put(line::PRICE_CURRENCY, values.present(PRICE_CURRENCY));
@@ -43,14 +44,14 @@ pub fn masked_terms(values: &Values, caps: &[u64; 5]) -> [u8; TERMS] {
     let asset_class = values.present(ASSET_CLASS);
     put(line::CLASS, asset_class);
     let cap = asset_class_place(asset_class).map_or(0, |place| caps[place]);
-    let (notional, plus) = masked_amount(values.present(NOTIONAL), cap);
+    let (notional, plus) = masked_amount(values.present(NOTIONAL_AMOUNT), cap);
     put(line::NOTIONAL, &decimal::<{ sizes::NOTIONAL }>(notional));
     if plus {
         put(line::PLUS, b"+");
     }
     put(line::NOTIONAL_CURRENCY, values.present(NOTIONAL_CURRENCY));
     // "Code 22 is shown where it is sent."
-    put(line::LOCATION, values.present(LOCATION));
+    put(line::LOCATION, values.present(SETTLEMENT_LOCATION));
     terms
 }
 

@@ -1,11 +1,11 @@
 //! Section "The message".
 
-use crate::elements::HIGHEST_CODE;
+use crate::elements::LAST_CODE;
 use crate::sizes::{COUNT, ENTRY, LONGEST_MESSAGE, U16};
 
 /// The values of one message by element code, each a part of the message.
 pub struct Values<'a> {
-    by_code: [Option<&'a [u8]>; HIGHEST_CODE as usize + 1],
+    by_code: [Option<&'a [u8]>; LAST_CODE as usize + 1],
 }
 
 impl<'a> Values<'a> {
@@ -14,12 +14,12 @@ impl<'a> Values<'a> {
         if message.len() > LONGEST_MESSAGE {
             return None;
         }
-        // "a u16 count n", from 0 to the highest code
+        // "a u16 count n", from 0 to the last code
         let count = u16_at(message, 0)?;
-        if count > HIGHEST_CODE {
+        if count > LAST_CODE {
             return None;
         }
-        let mut by_code = [None; HIGHEST_CODE as usize + 1];
+        let mut by_code = [None; LAST_CODE as usize + 1];
         // "With n = 0 the message is 2 bytes."
         if count == 0 {
             return (message.len() == COUNT).then_some(Values { by_code });
@@ -31,7 +31,7 @@ impl<'a> Values<'a> {
         }
         for i in 1..usize::from(count) {
             let (next_code, next_start) = entry(message, i)?;
-            // Codes lie in 1 to the highest "and rise strictly."
+            // Codes lie in 1 to the last "and rise strictly."
             if !is_code(next_code) || next_code <= code {
                 return None;
             }
@@ -60,7 +60,7 @@ impl<'a> Values<'a> {
 }
 
 fn is_code(code: u16) -> bool {
-    (1..=HIGHEST_CODE).contains(&code)
+    (1..=LAST_CODE).contains(&code)
 }
 
 /// Entry i of the header: element code and offset.

@@ -2,7 +2,7 @@
 //! where the one before it ends.
 
 /// Section "The ledger": "or 100,000 where that is less".
-pub const GREATEST_CAPACITY: usize = 100_000;
+pub const LARGEST_CAPACITY: usize = 100_000;
 /// "The longest message is 2,048 bytes."
 pub const LONGEST_MESSAGE: usize = 2_048;
 /// Section "The day run": "opens 400 rows".
@@ -37,7 +37,7 @@ pub const CAPS: usize = 5;
 
 /// Section "The tape line": offsets.
 pub mod line {
-    use super::{ASSET_CLASS, CURRENCY, DATE, PRICE, TIME, WORD};
+    use super::{ASSET_CLASS, CURRENCY, DATE, TIME, WORD};
 
     pub const IDENTIFIER: usize = 0;
     pub const PREVIOUS: usize = IDENTIFIER + super::IDENTIFIER;
@@ -52,8 +52,8 @@ pub mod line {
     pub const BLOCK: usize = NON_STANDARDIZED + 1;
     pub const LARGE: usize = BLOCK + 1;
     pub const PACKAGE: usize = LARGE + 1;
-    pub const PACKAGE_PRICE: usize = PACKAGE + 1;
-    pub const NOTATION: usize = PACKAGE_PRICE + PRICE;
+    pub const PRICE: usize = PACKAGE + 1;
+    pub const NOTATION: usize = PRICE + super::PRICE;
     pub const PRICE_CURRENCY: usize = NOTATION + 1;
     pub const CLASS: usize = PRICE_CURRENCY + CURRENCY;
     pub const NOTIONAL: usize = CLASS + ASSET_CLASS;
@@ -91,23 +91,23 @@ pub mod row {
     pub const UTI: usize = UTI_LENGTH + 1;
     pub const IDENTIFIER: usize = UTI + super::UTI;
     pub const TERMS: usize = IDENTIFIER + super::U64;
-    pub const ZEROS: usize = TERMS + super::TERMS;
-    pub const SIZE: usize = ZEROS + 5;
+    pub const TAIL: usize = TERMS + super::TERMS;
+    pub const SIZE: usize = TAIL + 5;
 }
 
 /// A ledger of some rows, and where the row behind them starts.
-pub const fn ledger(rows: usize) -> usize {
+pub const fn ledger_size(rows: usize) -> usize {
     header::SIZE + row::SIZE * rows
 }
 
 /// Header and one row; rules 1 and 3 ask for as much.
-pub const SHORTEST_LEDGER: usize = ledger(1);
+pub const SHORTEST_LEDGER: usize = ledger_size(1);
 
 /// The numbers that document 01 writes out.
 #[cfg(test)]
 mod tests {
     use super::*;
-    use crate::HIGHEST_CODE;
+    use crate::LAST_CODE;
 
     #[test]
     fn the_tape_line() {
@@ -125,7 +125,7 @@ mod tests {
             (line::BLOCK, 94),
             (line::LARGE, 95),
             (line::PACKAGE, 96),
-            (line::PACKAGE_PRICE, 97),
+            (line::PRICE, 97),
             (line::NOTATION, 117),
             (line::PRICE_CURRENCY, 118),
             (line::CLASS, 121),
@@ -159,20 +159,20 @@ mod tests {
             (row::UTI, 2),
             (row::IDENTIFIER, 54),
             (row::TERMS, 62),
-            (row::ZEROS, 155),
+            (row::TAIL, 155),
             (row::SIZE, 160),
         ];
         for (sum, offset) in header.into_iter().chain(row) {
             assert_eq!(sum, offset);
         }
         assert_eq!(SHORTEST_LEDGER, 224);
-        assert_eq!(ledger(400), 64_064);
+        assert_eq!(ledger_size(400), 64_064);
     }
 
     #[test]
     fn limits() {
-        assert_eq!((COUNT, ENTRY, HIGHEST_CODE), (2, 4, 25));
-        assert_eq!((LONGEST_MESSAGE, GREATEST_CAPACITY), (2_048, 100_000));
+        assert_eq!((COUNT, ENTRY, LAST_CODE), (2, 4, 25));
+        assert_eq!((LONGEST_MESSAGE, LARGEST_CAPACITY), (2_048, 100_000));
         assert_eq!((DAY_ROWS, CAPS, UTI), (400, 5, 52));
     }
 }

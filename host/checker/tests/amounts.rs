@@ -2,7 +2,7 @@
 
 use checker::{is_cap, masked};
 
-const GREATEST: u64 = 1_000_000_000_000_000;
+const LARGEST_CAP: u64 = 1_000_000_000_000_000;
 
 #[test]
 fn the_14_examples() {
@@ -24,7 +24,7 @@ fn the_14_examples() {
     ];
     for (amount, shown) in table {
         assert_eq!(
-            masked(amount.as_bytes(), GREATEST),
+            masked(amount.as_bytes(), LARGEST_CAP),
             Some((shown, false)),
             "{amount}"
         );
@@ -71,11 +71,11 @@ fn each_band_and_its_ends() {
         ("100000000000", 100_000_000_000),
         ("124999999999.99999", 100_000_000_000),
         ("974999999999999.99999", 975_000_000_000_000),
-        ("999999999999999.99999", GREATEST),
+        ("999999999999999.99999", LARGEST_CAP),
     ];
     for (amount, shown) in table {
         assert_eq!(
-            masked(amount.as_bytes(), GREATEST),
+            masked(amount.as_bytes(), LARGEST_CAP),
             Some((shown, false)),
             "{amount}"
         );
@@ -107,17 +107,17 @@ fn caps_and_the_plus_sign() {
     assert_eq!(masked(b"999.99999", 1_000), Some((1_000, false)));
     // 25 digits do not go into 64 bits.
     assert_eq!(
-        masked(b"9999999999999999999999999", GREATEST),
-        Some((GREATEST, true))
+        masked(b"9999999999999999999999999", LARGEST_CAP),
+        Some((LARGEST_CAP, true))
     );
     // 2 to the 64th plus 1,000, which a 64-bit number would take for 1,000
     assert_eq!(
-        masked(b"18446744073709552616", GREATEST),
-        Some((GREATEST, true))
+        masked(b"18446744073709552616", LARGEST_CAP),
+        Some((LARGEST_CAP, true))
     );
     // leading zeros
     assert_eq!(
-        masked(b"0000000000000000000001050", GREATEST),
+        masked(b"0000000000000000000001050", LARGEST_CAP),
         Some((1_100, false))
     );
 }
@@ -143,7 +143,7 @@ fn any_number_is_answered() {
 #[test]
 fn not_an_amount() {
     for v in ["", "-1", "1.", ".1", "1.123456", "abc", "1,000"] {
-        assert_eq!(masked(v.as_bytes(), GREATEST), None, "{v}");
+        assert_eq!(masked(v.as_bytes(), LARGEST_CAP), None, "{v}");
     }
 }
 
@@ -168,7 +168,7 @@ fn which_caps_are_let_pass() {
         100_000_000_000,
         150_000_000_000,
         999_950_000_000_000,
-        GREATEST,
+        LARGEST_CAP,
     ] {
         assert!(is_cap(cap), "{cap}");
         assert_eq!(masked(cap.to_string().as_bytes(), cap), Some((cap, false)));
@@ -190,8 +190,8 @@ fn which_caps_are_let_pass() {
         1_500_000_000,
         100_000_000_001,
         110_000_000_000,
-        GREATEST + 1,
-        GREATEST + 50_000_000_000,
+        LARGEST_CAP + 1,
+        LARGEST_CAP + 50_000_000_000,
         u64::MAX,
         u64::MAX - 9_551_615,
     ] {
@@ -203,10 +203,10 @@ fn which_caps_are_let_pass() {
 /// as the amount rises.
 #[test]
 fn shown_amounts_rise_with_amounts() {
-    for cap in [1_000, 9_900, 250_000_000, 550_000_000, GREATEST] {
+    for cap in [1_000, 9_900, 250_000_000, 550_000_000, LARGEST_CAP] {
         let mut last = 0;
         let mut amount: u64 = 0;
-        while amount < 2 * GREATEST {
+        while amount < 2 * LARGEST_CAP {
             let (shown, plus) = masked(amount.to_string().as_bytes(), cap).unwrap();
             assert!(shown >= last && shown <= cap && shown >= 5);
             assert_eq!(plus, amount > cap);

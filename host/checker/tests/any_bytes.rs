@@ -69,7 +69,7 @@ fn leaves_take_any_bytes() {
         let cap = numbers.next() >> numbers.below(64);
         let _ = (is_date(&v), is_time(&v), is_lei(&v), is_uti(&v));
         let _ = (price_too_long(&v), is_cap(cap), is_pair(&v, Some(&v)));
-        assert_eq!(is_amount(&v), masked(&v, cap).is_some());
+        assert_eq!(is_notional(&v), masked(&v, cap).is_some());
         assert_eq!(is_price(&v), shown_price(&v).is_some());
         let code = numbers.next() as u16;
         assert!(layout_right(&v) || value(&v, code).is_none());
@@ -108,7 +108,7 @@ fn changed_messages_and_ledgers() {
         }
         let messages = some_messages();
         let mut m = messages[numbers.below(messages.len())].clone();
-        let code = 1 + numbers.below(HIGHEST_CODE.into()) as u16;
+        let code = 1 + numbers.below(LAST_CODE.into()) as u16;
         match numbers.below(4) {
             0 => drop(m.remove(&code)),
             1 => {

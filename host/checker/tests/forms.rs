@@ -179,7 +179,7 @@ fn amounts() {
         "0000000000000000000000000",
         "123456789012345678901234.5",
     ] {
-        assert!(is_amount(v.as_bytes()), "{v}");
+        assert!(is_notional(v.as_bytes()), "{v}");
     }
     for v in [
         "",
@@ -200,7 +200,7 @@ fn amounts() {
         "1 ",
         "1..2",
     ] {
-        assert!(!is_amount(v.as_bytes()), "{v}");
+        assert!(!is_notional(v.as_bytes()), "{v}");
     }
 }
 

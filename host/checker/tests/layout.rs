@@ -2,7 +2,7 @@
 
 mod common;
 use checker::sizes::{COUNT, ENTRY, LONGEST_MESSAGE};
-use checker::{layout_right, value, HIGHEST_CODE};
+use checker::{layout_right, value, LAST_CODE};
 use common::*;
 
 fn with_header(entries: &[(u16, u16)], values: &[u8]) -> Vec<u8> {
@@ -19,16 +19,16 @@ fn with_header(entries: &[(u16, u16)], values: &[u8]) -> Vec<u8> {
 fn right_layouts() {
     assert!(layout_right(&[0, 0]));
     assert_eq!(value(&[0, 0], 1), None);
-    let m = with_header(&[(1, 10), (HIGHEST_CODE, 13)], b"abcd");
+    let m = with_header(&[(1, 10), (LAST_CODE, 13)], b"abcd");
     assert!(layout_right(&m));
     assert_eq!(value(&m, 1), Some(&b"abc"[..]));
-    assert_eq!(value(&m, HIGHEST_CODE), Some(&b"d"[..]));
-    for code in [0, 2, HIGHEST_CODE - 1, HIGHEST_CODE + 1, u16::MAX] {
+    assert_eq!(value(&m, LAST_CODE), Some(&b"d"[..]));
+    for code in [0, 2, LAST_CODE - 1, LAST_CODE + 1, u16::MAX] {
         assert_eq!(value(&m, code), None);
     }
-    let all: Elements = (1..=HIGHEST_CODE).map(|code| (code, vec![b'x'])).collect();
+    let all: Elements = (1..=LAST_CODE).map(|code| (code, vec![b'x'])).collect();
     assert!(layout_right(&laid_out(&all)));
-    let count = usize::from(HIGHEST_CODE);
+    let count = usize::from(LAST_CODE);
     assert_eq!(laid_out(&all).len(), COUNT + ENTRY * count + count);
 }
 
@@ -45,12 +45,12 @@ fn wrong_layouts() {
         vec![],
         vec![0],
         vec![0, 0, 0],
-        vec![HIGHEST_CODE as u8 + 1, 0],
+        vec![LAST_CODE as u8 + 1, 0],
         vec![0xFF; 200],
         with_header(&[], b"a"),
         with_header(&[(1, 6)], b""),  // offset not below the length
         with_header(&[(0, 6)], b"a"), // code 0
-        with_header(&[(HIGHEST_CODE + 1, 6)], b"a"),
+        with_header(&[(LAST_CODE + 1, 6)], b"a"),
         with_header(&[(1, 7)], b"abc"), // first offset too high
         with_header(&[(1, 5)], b"abc"), // first offset too low
         with_header(&[(1, 10), (1, 11)], b"ab"), // code again
@@ -71,9 +71,7 @@ fn wrong_layouts() {
         assert!(!layout_right(&m[..length]));
     }
     // an entry too many
-    let many: Elements = (1..=HIGHEST_CODE + 1)
-        .map(|code| (code, vec![b'x']))
-        .collect();
+    let many: Elements = (1..=LAST_CODE + 1).map(|code| (code, vec![b'x'])).collect();
     assert!(!layout_right(&laid_out(&many)));
 }
 

@@ -7,7 +7,7 @@ use std::ops::Range;
 
 /// The masked terms.
 const TERMS_IN_LINE: Range<usize> = line::TERMS..line::TERMS_END;
-const TERMS_IN_ROW: Range<usize> = row::TERMS..row::ZEROS;
+const TERMS_IN_ROW: Range<usize> = row::TERMS..row::TAIL;
 /// What follows the plain UTI in its field.
 const PADDING: Range<usize> = row::UTI + UTI.len()..row::IDENTIFIER;
 
@@ -139,7 +139,8 @@ fn the_life_of_a_swap() {
     let mut book = Book::new(3);
     book.accept(&with(newt(), 1, "ANOTHERSWAP0000000000001"));
     assert_eq!(book.accept(&newt()), 2);
-    let in_row = |at: usize, size: usize| sizes::ledger(1) + at..sizes::ledger(1) + at + size;
+    let in_row =
+        |at: usize, size: usize| sizes::ledger_size(1) + at..sizes::ledger_size(1) + at + size;
     let status = in_row(row::STATUS, 1);
     let identifier = in_row(row::IDENTIFIER, U64);
     let terms = in_row(row::TERMS, TERMS);

@@ -1,12 +1,12 @@
 //! Section "Verdict numbers, in checking order".
 
 mod common;
-use checker::sizes::{self, header, line, row, GREATEST_CAPACITY, SHORTEST_LEDGER, U64};
-use checker::{open, status, submit, Answer, HIGHEST_CODE};
+use checker::sizes::{self, header, line, row, LARGEST_CAPACITY, SHORTEST_LEDGER, U64};
+use checker::{open, status, submit, Answer, LAST_CODE};
 use common::*;
 
 #[test]
-fn verdict_1_short_buffer() {
+fn verdict_1_ledger_short() {
     for length in [0, 1, header::SIZE - 1, header::SIZE, SHORTEST_LEDGER - 1] {
         let mut ledger = vec![7; length];
         assert_eq!(open(&mut ledger, &CAPS), 1);
@@ -18,14 +18,14 @@ fn verdict_1_short_buffer() {
 }
 
 #[test]
-fn verdict_2_caps() {
+fn verdict_2_cap_wrong() {
     for bad in [0, 999, 1_001, 255_000_000, 1_000_000_000_000_001, u64::MAX] {
         for i in 0..5 {
             let mut caps = CAPS;
             caps[i] = bad;
-            let mut ledger = [7; sizes::ledger(2)];
+            let mut ledger = [7; sizes::ledger_size(2)];
             assert_eq!(open(&mut ledger, &caps), 2);
-            assert_eq!(ledger, [7; sizes::ledger(2)]);
+            assert_eq!(ledger, [7; sizes::ledger_size(2)]);
         }
     }
 }
@@ -41,9 +41,9 @@ fn opening_writes_the_header_alone() {
     ];
     for (length, capacity) in [
         (SHORTEST_LEDGER, 1),
-        (sizes::ledger(2) - 1, 1),
-        (sizes::ledger(2), 2),
-        (sizes::ledger(400), 400),
+        (sizes::ledger_size(2) - 1, 1),
+        (sizes::ledger_size(2), 2),
+        (sizes::ledger_size(400), 400),
     ] {
         let mut ledger = vec![0xEE; length];
         assert_eq!(open(&mut ledger, &caps), 0);
@@ -63,11 +63,11 @@ fn opening_writes_the_header_alone() {
 
 #[test]
 fn capacity_is_at_most_100_000() {
-    let greatest = GREATEST_CAPACITY;
+    let largest = LARGEST_CAPACITY;
     for (rows, capacity) in [
-        (greatest - 1, greatest - 1),
-        (greatest, greatest),
-        (greatest + 1, greatest),
+        (largest - 1, largest - 1),
+        (largest, largest),
+        (largest + 1, largest),
     ] {
         let book = Book::new(rows);
         assert_eq!(book.u32_at(header::CAPACITY) as usize, capacity);
@@ -86,7 +86,7 @@ fn breaks_the_ledger(mut book: Book) {
 }
 
 #[test]
-fn verdict_3_ledger() {
+fn verdict_3_ledger_wrong() {
     let book = Book::new(3);
     for length in [0, 4, header::SIZE - 1, header::SIZE, SHORTEST_LEDGER - 1] {
         let mut short = book.clone();
@@ -136,7 +136,7 @@ fn verdict_3_ledger() {
 }
 
 #[test]
-fn verdict_4_tape() {
+fn verdict_4_tape_short() {
     let mut book = Book::new(3);
     book.tape.truncate(line::SIZE - 1);
     assert_eq!(book.submit(&newt()), refused(4, 0));
@@ -150,14 +150,14 @@ fn verdict_4_tape() {
 }
 
 #[test]
-fn verdict_5_layout() {
+fn verdict_5_layout_wrong() {
     // See tests/layout.rs; 5 comes before 6.
     assert_eq!(Book::new(1).submit_bytes(&[0, 0, 0]), refused(5, 0));
     assert_eq!(Book::new(1).submit_bytes(&[]), refused(5, 0));
 }
 
 #[test]
-fn verdict_6_action() {
+fn verdict_6_action_wrong() {
     let mut book = Book::new(1);
     assert_eq!(book.submit_bytes(&[0, 0]), refused(6, 2));
     book.refuse(&without(newt(), 2), 6, 2);
@@ -169,7 +169,7 @@ fn verdict_6_action() {
 }
 
 #[test]
-fn verdict_7_needed() {
+fn verdict_7_element_missing() {
     let mut book = Book::new(1);
     let full_codes = [1, 4, 5, 6, 7, 8, 9, 10, 12, 13, 14, 15, 20, 21, 23, 24, 25];
     for (action, event) in [
@@ -205,18 +205,18 @@ fn verdict_7_needed() {
 }
 
 #[test]
-fn verdict_8_above_5() {
+fn verdict_8_element_not_taken() {
     let mut book = Book::new(1);
     book.accept(&newt());
     let all = with(with_package(full("TERM", Some("ETRM")), "1", "1"), 22, "US");
     let all = with(all, 11, "True");
-    assert_eq!(all.len(), usize::from(HIGHEST_CODE));
+    assert_eq!(all.len(), usize::from(LAST_CODE));
     for (action, event) in [
         ("TERM", Some("ETRM")),
         ("EROR", None),
         ("PRTO", Some("PTNG")),
     ] {
-        for code in 6..=HIGHEST_CODE {
+        for code in 6..=LAST_CODE {
             let mut m = short(action, event);
             m.insert(code, all[&code].clone());
             book.refuse(&m, 8, code as u8);
@@ -224,14 +224,14 @@ fn verdict_8_above_5() {
             m.insert(code, b"?".to_vec());
             book.refuse(&with(m.clone(), 4, "?"), 8, code as u8);
             // the lowest one is named
-            m.insert(HIGHEST_CODE, b"?".to_vec());
+            m.insert(LAST_CODE, b"?".to_vec());
             book.refuse(&m, 8, code as u8);
         }
     }
 }
 
 #[test]
-fn verdict_9_forms() {
+fn verdict_9_form_broken() {
     let mut book = Book::new(1);
     // every element but the action, whose form is 6
     let whole = with(
@@ -305,7 +305,7 @@ fn verdict_9_forms() {
 }
 
 #[test]
-fn verdict_10_pair() {
+fn verdict_10_not_a_pair() {
     let mut book = Book::new(1);
     book.refuse(&full("NEWT", Some("ETRM")), 10, 0);
     book.refuse(&full("NEWT", None), 10, 0);
@@ -321,7 +321,7 @@ fn verdict_10_pair() {
 }
 
 #[test]
-fn verdict_11_conditional() {
+fn verdict_11_conditional_missing() {
     let mut book = Book::new(9);
     // 11 if Cleared is N
     let not_cleared = with(newt(), 10, "N");
@@ -351,7 +351,7 @@ fn verdict_11_conditional() {
 }
 
 #[test]
-fn verdict_12_price() {
+fn verdict_12_price_too_long() {
     let mut book = Book::new(9);
     for bad in ["123456789012", "0.01234567890", "-12.0123456789"] {
         book.refuse(&with_package(newt(), bad, "3"), 12, 0);
@@ -367,7 +367,7 @@ fn verdict_12_price() {
 }
 
 #[test]
-fn verdict_13_order() {
+fn verdict_13_dates_disordered() {
     let mut book = Book::new(9);
     book.refuse(&with(newt(), 8, "2024-02-29"), 13, 0); // expiration before effective
     book.refuse(&with(newt(), 9, "2029-02-28"), 13, 0); // settlement before expiration
@@ -389,7 +389,7 @@ fn verdict_13_order() {
 }
 
 #[test]
-fn verdict_14_row() {
+fn verdict_14_row_wrong() {
     let mut book = Book::new(3);
     book.accept(&newt());
     book.accept(&modi());
@@ -436,7 +436,7 @@ fn verdict_14_row() {
 }
 
 #[test]
-fn verdict_15_status() {
+fn verdict_15_not_admitted() {
     let actions: [(&str, Elements); 7] = [
         ("NEWT", newt()),
         ("MODI", modi()),
@@ -476,7 +476,7 @@ fn verdict_15_status() {
 }
 
 #[test]
-fn verdict_16_execution_time() {
+fn verdict_16_other_time() {
     let mut book = Book::new(1);
     book.accept(&newt());
     let other = "2024-02-29T10:15:31Z";
@@ -493,7 +493,7 @@ fn verdict_16_execution_time() {
 }
 
 #[test]
-fn verdict_17_capacity() {
+fn verdict_17_ledger_full() {
     let mut book = Book::new(2);
     let swap = |n: u8| with(newt(), 1, &format!("{UTI}{n}"));
     book.accept(&swap(1));
@@ -511,7 +511,7 @@ fn verdict_17_capacity() {
 }
 
 #[test]
-fn verdict_18_identifiers() {
+fn verdict_18_identifiers_spent() {
     let mut book = Book::new(2);
     book.accept(&newt());
     book.set_u64(header::NEXT_IDENTIFIER, 999_999_999_999);

@@ -265,10 +265,10 @@ fn difference(first: &[u8], second: &[u8]) -> Option<(usize, u8, u8)> {
 #[cfg(test)]
 mod tests {
     use super::{Answer, Compared, Judge};
-    use crate::layout::{length_for, LINE_SIZE};
+    use crate::layout::{ledger_size, LINE_SIZE};
 
     /// A byte of the second row.
-    const IN_ROW_1: usize = length_for(1) + 75;
+    const IN_ROW_1: usize = ledger_size(1) + 75;
     /// The longest tape buffer here: a line and some bytes behind it.
     const TAPE: usize = LINE_SIZE + 4;
 
@@ -371,7 +371,7 @@ mod tests {
 
     fn fault_between(first: &'static Told, second: &'static Told) -> String {
         let mut compared = Compared::between(&[first, second]);
-        compared.set_ledger(&[0; length_for(2)]);
+        compared.set_ledger(&[0; ledger_size(2)]);
         compared.set_tape(&[0; TAPE]);
         let result = compared.try_submit(b"message");
         result.expect_err("the judges are wrong").to_string()

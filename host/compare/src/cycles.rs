@@ -1,6 +1,6 @@
 //! Life cycles of swaps, and a model that says what each step has to do.
 
-use crate::layout::{Header, Row, EXECUTION_IN_TERMS, HIGHEST_NEXT, LINE_SIZE, TERMS_SIZE};
+use crate::layout::{Header, Row, EXECUTION_IN_TERMS, IDENTIFIER_LIMIT, LINE_SIZE, TERMS_SIZE};
 use crate::matrix::{self, is_full, ACTIONS, EVENTS};
 use crate::message::Message;
 use crate::random::Random;
@@ -69,7 +69,7 @@ impl Model {
             4
         } else if !matrix::is_pair(action, event) {
             10
-        } else if matrix::step(action, self.status(uti)).is_none() {
+        } else if matrix::status_after(action, self.status(uti)).is_none() {
             15
         } else if repeats
             && row.is_some_and(|row| row.terms[EXECUTION_IN_TERMS] != *message.value(6))
@@ -77,7 +77,7 @@ impl Model {
             16
         } else if action == "NEWT" && self.header.rows == self.header.capacity {
             17
-        } else if matrix::writes_line(action) && self.header.next == HIGHEST_NEXT {
+        } else if matrix::writes_line(action) && self.header.next == IDENTIFIER_LIMIT {
             18
         } else {
             0
@@ -93,7 +93,7 @@ impl Model {
         let next = self.header.next;
         let row = &mut self.rows[row];
         if known.is_some() {
-            row.status = matrix::step(action, row.status).expect("the step was admitted");
+            row.status = matrix::status_after(action, row.status).expect("the step was admitted");
         }
         if is_full(action) {
             row.terms = terms_of(message, &self.header.caps);
@@ -143,7 +143,7 @@ pub fn next_message(random: &mut Random, model: &Model, utis: &[Vec<u8>]) -> Mes
 fn next_action(random: &mut Random, status: u8) -> &'static str {
     let admitted: Vec<&str> = ACTIONS
         .into_iter()
-        .filter(|action| matrix::step(action, status).is_some())
+        .filter(|action| matrix::status_after(action, status).is_some())
         .collect();
     if admitted.is_empty() || random.once_in(6) {
         return ACTIONS[random.below(ACTIONS.len())];

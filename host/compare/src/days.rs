@@ -96,7 +96,7 @@ impl Feed {
         let mut faults = faults::all();
         faults.retain(|fault| order::from_to(5, 13).contains(&fault.verdict()));
         Feed {
-            model: Model::opened(layout::length_for(DAY_ROWS), CAPS),
+            model: Model::opened(layout::ledger_size(DAY_ROWS), CAPS),
             utis: values::utis(random, swaps),
             faults,
         }

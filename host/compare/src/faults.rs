@@ -5,11 +5,13 @@
 //! checking order, so that the first is certainly broken; its number is the
 //! verdict that is due.
 
-use crate::layout::{self, Header, Row, EXECUTION_IN_TERMS, HEADER_SIZE, HIGHEST_NEXT, LINE_SIZE};
+use crate::layout::{
+    self, Header, Row, EXECUTION_IN_TERMS, HEADER_SIZE, IDENTIFIER_LIMIT, LINE_SIZE,
+};
 use crate::layout::{ROW_SIZE, SHORTEST_LEDGER};
 use crate::malformed;
 use crate::matrix::{self, is_full};
-use crate::message::{Message, COUNT_SIZE, ENTRY_SIZE, HIGHEST_CODE, LONGEST_MESSAGE};
+use crate::message::{Message, COUNT_SIZE, ENTRY_SIZE, LAST_CODE, LONGEST_MESSAGE};
 use crate::order;
 use crate::random::Random;
 use crate::sound;
@@ -23,15 +25,15 @@ pub const NEEDED_BY_ALL: [u8; 3] = [1, 4, 5];
 pub const NEEDED_BY_FULL: [u8; 14] = [6, 7, 8, 9, 10, 12, 13, 14, 15, 20, 21, 23, 24, 25];
 /// The conditional codes.
 pub const CONDITIONAL: [u8; 5] = [11, 16, 17, 18, 19];
-/// The highest code that TERM, EROR and PRTO take.
-pub const HIGHEST_SHORT: u8 = 5;
+/// The last code that TERM, EROR and PRTO take.
+pub const LAST_SHORT: u8 = 5;
 
 /// A fault in the header or length of the ledger (3).
 #[derive(Clone, Copy, Debug, PartialEq, Eq)]
 pub enum Damage {
     Short,
     ManyRows,
-    First,
+    FirstRow,
     NextZero,
     NextHigh,
     Cap(usize),
@@ -69,7 +71,7 @@ pub enum Order {
 
 /// What is wrong with the swap's row (14).
 #[derive(Clone, Copy, Debug, PartialEq, Eq)]
-pub enum BadRow {
+pub enum WrongRow {
     Status(u8),
     IdentifierZero,
     IdentifierNext,
@@ -79,55 +81,55 @@ pub enum BadRow {
 /// A broken rule.
 #[derive(Clone, Copy, Debug, PartialEq, Eq)]
 pub enum Fault {
-    Ledger(Damage),
-    Tape,
-    Layout(Layout),
-    Action,
-    Missing(u8),
-    Surplus(u8),
-    Form(u8),
-    Pair,
-    Conditional(u8),
-    LongPrice,
-    Order(Order),
-    Row(BadRow),
-    Step(u8),
-    Execution,
-    Full,
-    Spent,
+    LedgerWrong(Damage),
+    TapeShort,
+    LayoutWrong(Layout),
+    ActionWrong,
+    ElementMissing(u8),
+    ElementNotTaken(u8),
+    FormBroken(u8),
+    NotAPair,
+    ConditionalMissing(u8),
+    PriceTooLong,
+    DatesDisordered(Order),
+    RowWrong(WrongRow),
+    NotAdmitted(u8),
+    OtherTime,
+    LedgerFull,
+    IdentifiersSpent,
 }
 
 impl Fault {
     /// The verdict that the fault alone gets.
     pub fn verdict(self) -> u8 {
         match self {
-            Fault::Ledger(_) => 3,
-            Fault::Tape => 4,
-            Fault::Layout(_) => 5,
-            Fault::Action => 6,
-            Fault::Missing(_) => 7,
-            Fault::Surplus(_) => 8,
-            Fault::Form(_) => 9,
-            Fault::Pair => 10,
-            Fault::Conditional(_) => 11,
-            Fault::LongPrice => 12,
-            Fault::Order(_) => 13,
-            Fault::Row(_) => 14,
-            Fault::Step(_) => 15,
-            Fault::Execution => 16,
-            Fault::Full => 17,
-            Fault::Spent => 18,
+            Fault::LedgerWrong(_) => 3,
+            Fault::TapeShort => 4,
+            Fault::LayoutWrong(_) => 5,
+            Fault::ActionWrong => 6,
+            Fault::ElementMissing(_) => 7,
+            Fault::ElementNotTaken(_) => 8,
+            Fault::FormBroken(_) => 9,
+            Fault::NotAPair => 10,
+            Fault::ConditionalMissing(_) => 11,
+            Fault::PriceTooLong => 12,
+            Fault::DatesDisordered(_) => 13,
+            Fault::RowWrong(_) => 14,
+            Fault::NotAdmitted(_) => 15,
+            Fault::OtherTime => 16,
+            Fault::LedgerFull => 17,
+            Fault::IdentifiersSpent => 18,
         }
     }
 
     /// The element that the verdict names.
     pub fn element(self) -> u8 {
         match self {
-            Fault::Action => 2,
-            Fault::Missing(code)
-            | Fault::Surplus(code)
-            | Fault::Form(code)
-            | Fault::Conditional(code) => code,
+            Fault::ActionWrong => 2,
+            Fault::ElementMissing(code)
+            | Fault::ElementNotTaken(code)
+            | Fault::FormBroken(code)
+            | Fault::ConditionalMissing(code) => code,
             _ => 0,
         }
     }
@@ -146,14 +148,16 @@ impl Fault {
     /// Whether a message of this action can have the fault.
     pub fn fits(self, action: &str) -> bool {
         match self {
-            Fault::Missing(code) => is_full(action) || code <= HIGHEST_SHORT,
-            Fault::Form(code) => is_full(action) || code <= HIGHEST_SHORT,
-            Fault::Surplus(_) => !is_full(action),
-            Fault::Conditional(_) | Fault::LongPrice | Fault::Order(_) => is_full(action),
-            Fault::Step(status) => matrix::step(action, status).is_none(),
-            Fault::Execution => matches!(action, "MODI" | "REVI"),
-            Fault::Full => action == "NEWT",
-            Fault::Spent => matrix::writes_line(action),
+            Fault::ElementMissing(code) => is_full(action) || code <= LAST_SHORT,
+            Fault::FormBroken(code) => is_full(action) || code <= LAST_SHORT,
+            Fault::ElementNotTaken(_) => !is_full(action),
+            Fault::ConditionalMissing(_) | Fault::PriceTooLong | Fault::DatesDisordered(_) => {
+                is_full(action)
+            }
+            Fault::NotAdmitted(status) => matrix::status_after(action, status).is_none(),
+            Fault::OtherTime => matches!(action, "MODI" | "REVI"),
+            Fault::LedgerFull => action == "NEWT",
+            Fault::IdentifiersSpent => matrix::writes_line(action),
             _ => true,
         }
     }
@@ -162,28 +166,30 @@ impl Fault {
 /// Every fault there is.
 pub fn all() -> Vec<Fault> {
     let mut faults = vec![
-        Fault::Tape,
-        Fault::Action,
-        Fault::Pair,
-        Fault::LongPrice,
-        Fault::Execution,
-        Fault::Full,
-        Fault::Spent,
+        Fault::TapeShort,
+        Fault::ActionWrong,
+        Fault::NotAPair,
+        Fault::PriceTooLong,
+        Fault::OtherTime,
+        Fault::LedgerFull,
+        Fault::IdentifiersSpent,
     ];
-    faults.extend(damages().into_iter().map(Fault::Ledger));
-    faults.extend(LAYOUTS.map(Fault::Layout));
-    faults.extend(NEEDED_BY_ALL.map(Fault::Missing));
-    faults.extend(NEEDED_BY_FULL.map(Fault::Missing));
-    faults.extend((HIGHEST_SHORT + 1..=HIGHEST_CODE).map(Fault::Surplus));
+    faults.extend(damages().into_iter().map(Fault::LedgerWrong));
+    faults.extend(LAYOUTS.map(Fault::LayoutWrong));
+    faults.extend(NEEDED_BY_ALL.map(Fault::ElementMissing));
+    faults.extend(NEEDED_BY_FULL.map(Fault::ElementMissing));
+    faults.extend((LAST_SHORT + 1..=LAST_CODE).map(Fault::ElementNotTaken));
     faults.extend(
-        (1..=HIGHEST_CODE)
+        (1..=LAST_CODE)
             .filter(|&code| code != 2)
-            .map(Fault::Form),
+            .map(Fault::FormBroken),
     );
-    faults.extend(CONDITIONAL.map(Fault::Conditional));
-    faults.extend([Order::Expiration, Order::Settlement, Order::Reporting].map(Fault::Order));
-    faults.extend(BAD_ROWS.map(Fault::Row));
-    faults.extend((UNKNOWN..=PORTED).map(Fault::Step));
+    faults.extend(CONDITIONAL.map(Fault::ConditionalMissing));
+    faults.extend(
+        [Order::Expiration, Order::Settlement, Order::Reporting].map(Fault::DatesDisordered),
+    );
+    faults.extend(WRONG_ROWS.map(Fault::RowWrong));
+    faults.extend((UNKNOWN..=PORTED).map(Fault::NotAdmitted));
     faults
 }
 
@@ -191,7 +197,7 @@ fn damages() -> Vec<Damage> {
     let mut damages = vec![
         Damage::Short,
         Damage::ManyRows,
-        Damage::First,
+        Damage::FirstRow,
         Damage::NextZero,
         Damage::NextHigh,
         Damage::RowSize,
@@ -219,13 +225,13 @@ const LAYOUTS: [Layout; 14] = [
     Layout::TooLong,
 ];
 
-const BAD_ROWS: [BadRow; 6] = [
-    BadRow::Status(0),
-    BadRow::Status(5),
-    BadRow::Status(255),
-    BadRow::IdentifierZero,
-    BadRow::IdentifierNext,
-    BadRow::IdentifierHigh,
+const WRONG_ROWS: [WrongRow; 6] = [
+    WrongRow::Status(0),
+    WrongRow::Status(5),
+    WrongRow::Status(255),
+    WrongRow::IdentifierZero,
+    WrongRow::IdentifierNext,
+    WrongRow::IdentifierHigh,
 ];
 
 /// What one submission is lent, kept so that it can be changed.
@@ -247,7 +253,7 @@ impl Case {
     pub fn sound(random: &mut Random, action: &str) -> Case {
         let count = random.between(1, 6);
         let spare = random.between(1, 3);
-        let ledger_length = layout::length_for(count + spare) + random.below(ROW_SIZE);
+        let ledger_length = layout::ledger_size(count + spare) + random.below(ROW_SIZE);
         let mut header = Header::opened(ledger_length, values::caps(random));
         header.rows = count as u32;
         header.next = next_identifier(random);
@@ -325,22 +331,22 @@ impl Case {
 
     fn break_rule(&mut self, random: &mut Random, fault: Fault) {
         match fault {
-            Fault::Ledger(damage) => self.damage(random, damage),
-            Fault::Tape => self.tape_length = random.below(LINE_SIZE),
-            Fault::Layout(layout) => self.layout = Some(layout),
-            Fault::Action => self.spoil_action(random),
-            Fault::Missing(code) => _ = self.message.remove(code),
-            Fault::Surplus(code) => self.add_surplus(random, code),
-            Fault::Form(code) => self.malform(random, code),
-            Fault::Pair => self.part_pair(random),
-            Fault::Conditional(code) => self.leave_out(random, code),
-            Fault::LongPrice => self.lengthen_price(random),
-            Fault::Order(order) => self.disorder(order),
-            Fault::Row(bad) => self.spoil_row(bad),
-            Fault::Step(status) => self.set_status(random, status),
-            Fault::Execution => self.other_execution(random),
-            Fault::Full => self.fill_up(),
-            Fault::Spent => self.spend(),
+            Fault::LedgerWrong(damage) => self.damage(random, damage),
+            Fault::TapeShort => self.tape_length = random.below(LINE_SIZE),
+            Fault::LayoutWrong(layout) => self.layout = Some(layout),
+            Fault::ActionWrong => self.spoil_action(random),
+            Fault::ElementMissing(code) => _ = self.message.remove(code),
+            Fault::ElementNotTaken(code) => self.add_not_taken(random, code),
+            Fault::FormBroken(code) => self.malform(random, code),
+            Fault::NotAPair => self.part_pair(random),
+            Fault::ConditionalMissing(code) => self.leave_out(random, code),
+            Fault::PriceTooLong => self.lengthen_price(random),
+            Fault::DatesDisordered(order) => self.disorder(order),
+            Fault::RowWrong(wrong) => self.spoil_row(wrong),
+            Fault::NotAdmitted(status) => self.set_status(random, status),
+            Fault::OtherTime => self.other_time(random),
+            Fault::LedgerFull => self.fill_up(),
+            Fault::IdentifiersSpent => self.spend(),
         }
     }
 
@@ -350,10 +356,10 @@ impl Case {
         match damage {
             Damage::Short => self.ledger_length = random.below(SHORTEST_LEDGER),
             Damage::ManyRows => header.rows = header.capacity + 1 + random.below(3) as u32,
-            Damage::First => header.first = wrong_size(random, HEADER_SIZE),
+            Damage::FirstRow => header.first_row = wrong_size(random, HEADER_SIZE),
             Damage::NextZero => header.next = 0,
             Damage::NextHigh => {
-                header.next = *random.pick(&[HIGHEST_NEXT + 1, u64::MAX, 1 << 40, 1 << 63])
+                header.next = *random.pick(&[IDENTIFIER_LIMIT + 1, u64::MAX, 1 << 40, 1 << 63])
             }
             Damage::Cap(class) => header.caps[class] = *random.pick(&WRONG_CAPS),
             Damage::RowSize => header.row_size = wrong_size(random, ROW_SIZE),
@@ -371,7 +377,7 @@ impl Case {
         self.message.set(2, random.pick(&wrong));
     }
 
-    fn add_surplus(&mut self, random: &mut Random, code: u8) {
+    fn add_not_taken(&mut self, random: &mut Random, code: u8) {
         let value = if random.once_in(2) {
             random.pick(&malformed::values(code)).clone()
         } else {
@@ -434,14 +440,14 @@ impl Case {
         }
     }
 
-    fn spoil_row(&mut self, bad: BadRow) {
+    fn spoil_row(&mut self, wrong: WrongRow) {
         let next = self.header.next;
         let row = &mut self.rows[self.row];
-        match bad {
-            BadRow::Status(status) => row.status = status,
-            BadRow::IdentifierZero => row.identifier = 0,
-            BadRow::IdentifierNext => row.identifier = next,
-            BadRow::IdentifierHigh => row.identifier = u64::MAX,
+        match wrong {
+            WrongRow::Status(status) => row.status = status,
+            WrongRow::IdentifierZero => row.identifier = 0,
+            WrongRow::IdentifierNext => row.identifier = next,
+            WrongRow::IdentifierHigh => row.identifier = u64::MAX,
         }
         self.name_row();
     }
@@ -472,7 +478,7 @@ impl Case {
     }
 
     /// Another execution time than the row's, often in one character only.
-    fn other_execution(&mut self, random: &mut Random) {
+    fn other_time(&mut self, random: &mut Random) {
         let stored = self.rows[self.row].terms[EXECUTION_IN_TERMS].to_vec();
         let mut other = stored.clone();
         while other == stored {
@@ -487,12 +493,12 @@ impl Case {
 
     fn fill_up(&mut self) {
         let rows = self.rows.len();
-        self.ledger_length = layout::length_for(rows) + self.ledger_length % ROW_SIZE;
+        self.ledger_length = layout::ledger_size(rows) + self.ledger_length % ROW_SIZE;
         self.header.capacity = rows as u32;
     }
 
     fn spend(&mut self) {
-        self.header.next = HIGHEST_NEXT;
+        self.header.next = IDENTIFIER_LIMIT;
     }
 
     /// The action of a message that has one.
@@ -542,8 +548,8 @@ const LONG_PRICES: [&str; 8] = [
 fn next_identifier(random: &mut Random) -> u64 {
     match random.below(4) {
         0 => 2 + random.bits() % 300,
-        1 => HIGHEST_NEXT - 1,
-        _ => 2 + random.bits() % (HIGHEST_NEXT - 3),
+        1 => IDENTIFIER_LIMIT - 1,
+        _ => 2 + random.bits() % (IDENTIFIER_LIMIT - 3),
     }
 }
 
@@ -592,7 +598,7 @@ fn spoiled(message: &Message, fault: Layout) -> Vec<u8> {
         Layout::CountZero => bytes[0] = 0,
         Layout::CountTooHigh => bytes[1] = 1,
         Layout::CodeZero => bytes[entry(0)] = 0,
-        Layout::CodeTooHigh => bytes[last] = HIGHEST_CODE + 1,
+        Layout::CodeTooHigh => bytes[last] = LAST_CODE + 1,
         Layout::CodesEqual => bytes[last] = bytes[last - ENTRY_SIZE],
         Layout::FirstOffset => bytes[entry(0) + 2] += 1,
         Layout::OffsetsEqual => bytes.copy_within(last - 2..last, last + 2),

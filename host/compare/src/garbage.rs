@@ -1,6 +1,6 @@
 //! Bytes that no host would send.
 
-use crate::message::{COUNT_SIZE, ENTRY_SIZE, HIGHEST_CODE};
+use crate::message::{COUNT_SIZE, ENTRY_SIZE, LAST_CODE};
 use crate::random::Random;
 
 /// Changes some bytes at random.
@@ -32,7 +32,7 @@ pub fn noise(random: &mut Random, longest: usize) -> Vec<u8> {
 
 /// A message with a right count and wild codes and offsets.
 pub fn wild_message(random: &mut Random) -> Vec<u8> {
-    let count = random.between(0, usize::from(HIGHEST_CODE) + 1);
+    let count = random.between(0, usize::from(LAST_CODE) + 1);
     let mut bytes = (count as u16).to_le_bytes().to_vec();
     let mut code = 0;
     let mut offset = COUNT_SIZE + ENTRY_SIZE * count;

@@ -14,13 +14,13 @@ pub const U64_SIZE: usize = 8;
 
 // The message.
 
-/// The highest element code.
-pub const HIGHEST_CODE: u8 = 25;
+/// The last element code.
+pub const LAST_CODE: u8 = 25;
 
 // The tape line: the sizes of fields, and the fields one after the other.
 
 /// The digits of an identifier.
-pub const DIGITS_SIZE: usize = 12;
+pub const IDENTIFIER_DIGITS: usize = 12;
 /// The characters of an action or event.
 pub const WORD_SIZE: usize = 4;
 /// The characters of a time.
@@ -28,7 +28,7 @@ pub const TIME_SIZE: usize = 20;
 /// The characters of a date.
 pub const DATE_SIZE: usize = 10;
 /// One character, as of a truth.
-pub const FLAG_SIZE: usize = 1;
+pub const MARK_SIZE: usize = 1;
 /// The characters of a price.
 pub const PRICE_SIZE: usize = 20;
 /// The characters of a currency.
@@ -40,28 +40,28 @@ pub const NOTIONAL_SIZE: usize = 16;
 /// The characters of a location.
 pub const LOCATION_SIZE: usize = 2;
 
-pub const IDENTIFIER_IN_LINE: Range<usize> = 0..DIGITS_SIZE;
-pub const PREVIOUS_IN_LINE: Range<usize> = after(IDENTIFIER_IN_LINE, DIGITS_SIZE);
+pub const IDENTIFIER_IN_LINE: Range<usize> = 0..IDENTIFIER_DIGITS;
+pub const PREVIOUS_IN_LINE: Range<usize> = after(IDENTIFIER_IN_LINE, IDENTIFIER_DIGITS);
 pub const ACTION_IN_LINE: Range<usize> = after(PREVIOUS_IN_LINE, WORD_SIZE);
 pub const EVENT_IN_LINE: Range<usize> = after(ACTION_IN_LINE, WORD_SIZE);
 pub const EVENT_TIME_IN_LINE: Range<usize> = after(EVENT_IN_LINE, TIME_SIZE);
 pub const EXECUTION_IN_LINE: Range<usize> = after(EVENT_TIME_IN_LINE, TIME_SIZE);
 pub const EFFECTIVE_IN_LINE: Range<usize> = after(EXECUTION_IN_LINE, DATE_SIZE);
 pub const EXPIRATION_IN_LINE: Range<usize> = after(EFFECTIVE_IN_LINE, DATE_SIZE);
-pub const CLEARED_IN_LINE: Range<usize> = after(EXPIRATION_IN_LINE, FLAG_SIZE);
-pub const NON_STANDARDIZED_IN_LINE: Range<usize> = after(CLEARED_IN_LINE, FLAG_SIZE);
-pub const BLOCK_IN_LINE: Range<usize> = after(NON_STANDARDIZED_IN_LINE, FLAG_SIZE);
-pub const LARGE_IN_LINE: Range<usize> = after(BLOCK_IN_LINE, FLAG_SIZE);
-pub const PACKAGE_IN_LINE: Range<usize> = after(LARGE_IN_LINE, FLAG_SIZE);
+pub const CLEARED_IN_LINE: Range<usize> = after(EXPIRATION_IN_LINE, MARK_SIZE);
+pub const NON_STANDARDIZED_IN_LINE: Range<usize> = after(CLEARED_IN_LINE, MARK_SIZE);
+pub const BLOCK_IN_LINE: Range<usize> = after(NON_STANDARDIZED_IN_LINE, MARK_SIZE);
+pub const LARGE_IN_LINE: Range<usize> = after(BLOCK_IN_LINE, MARK_SIZE);
+pub const PACKAGE_IN_LINE: Range<usize> = after(LARGE_IN_LINE, MARK_SIZE);
 pub const PRICE_IN_LINE: Range<usize> = after(PACKAGE_IN_LINE, PRICE_SIZE);
-pub const NOTATION_IN_LINE: Range<usize> = after(PRICE_IN_LINE, FLAG_SIZE);
+pub const NOTATION_IN_LINE: Range<usize> = after(PRICE_IN_LINE, MARK_SIZE);
 pub const PRICE_CURRENCY_IN_LINE: Range<usize> = after(NOTATION_IN_LINE, CURRENCY_SIZE);
 pub const CLASS_IN_LINE: Range<usize> = after(PRICE_CURRENCY_IN_LINE, CLASS_SIZE);
 pub const NOTIONAL_IN_LINE: Range<usize> = after(CLASS_IN_LINE, NOTIONAL_SIZE);
-pub const PLUS_IN_LINE: Range<usize> = after(NOTIONAL_IN_LINE, FLAG_SIZE);
-pub const CURRENCY_IN_LINE: Range<usize> = after(PLUS_IN_LINE, CURRENCY_SIZE);
-pub const LOCATION_IN_LINE: Range<usize> = after(CURRENCY_IN_LINE, LOCATION_SIZE);
-pub const NEWLINE_IN_LINE: Range<usize> = after(LOCATION_IN_LINE, FLAG_SIZE);
+pub const PLUS_IN_LINE: Range<usize> = after(NOTIONAL_IN_LINE, MARK_SIZE);
+pub const NOTIONAL_CURRENCY_IN_LINE: Range<usize> = after(PLUS_IN_LINE, CURRENCY_SIZE);
+pub const LOCATION_IN_LINE: Range<usize> = after(NOTIONAL_CURRENCY_IN_LINE, LOCATION_SIZE);
+pub const NEWLINE_IN_LINE: Range<usize> = after(LOCATION_IN_LINE, MARK_SIZE);
 
 /// The bytes of a line.
 pub const LINE_SIZE: usize = NEWLINE_IN_LINE.end;
@@ -78,8 +78,8 @@ pub const EXECUTION_IN_TERMS: Range<usize> = 0..TIME_SIZE;
 pub const CLASS_COUNT: usize = 5;
 
 pub const ROWS_IN_HEADER: Range<usize> = 0..U32_SIZE;
-pub const FIRST_IN_HEADER: Range<usize> = after(ROWS_IN_HEADER, U32_SIZE);
-pub const NEXT_IN_HEADER: Range<usize> = after(FIRST_IN_HEADER, U64_SIZE);
+pub const FIRST_ROW_IN_HEADER: Range<usize> = after(ROWS_IN_HEADER, U32_SIZE);
+pub const NEXT_IN_HEADER: Range<usize> = after(FIRST_ROW_IN_HEADER, U64_SIZE);
 pub const CAPS_IN_HEADER: Range<usize> = after(NEXT_IN_HEADER, CLASS_COUNT * U64_SIZE);
 pub const ROW_SIZE_IN_HEADER: Range<usize> = after(CAPS_IN_HEADER, U32_SIZE);
 pub const CAPACITY_IN_HEADER: Range<usize> = after(ROW_SIZE_IN_HEADER, U32_SIZE);
@@ -110,14 +110,14 @@ pub const SHORTEST_LEDGER: usize = HEADER_SIZE + ROW_SIZE;
 pub const LARGEST_CAPACITY: usize = 100_000;
 /// The rows that the day run opens.
 pub const DAY_ROWS: usize = 400;
-/// The highest next identifier; no line takes it.
-pub const HIGHEST_NEXT: u64 = 1_000_000_000_000;
+/// Identifiers stay below this; the next one may come to it.
+pub const IDENTIFIER_LIMIT: u64 = 1_000_000_000_000;
 
 /// The ledger's header.
 #[derive(Clone, Debug, PartialEq, Eq)]
 pub struct Header {
     pub rows: u32,
-    pub first: u32,
+    pub first_row: u32,
     pub next: u64,
     pub caps: [u64; CLASS_COUNT],
     pub row_size: u32,
@@ -129,7 +129,7 @@ impl Header {
     pub fn opened(length: usize, caps: [u64; CLASS_COUNT]) -> Self {
         Header {
             rows: 0,
-            first: HEADER_SIZE as u32,
+            first_row: HEADER_SIZE as u32,
             next: 1,
             caps,
             row_size: ROW_SIZE as u32,
@@ -141,7 +141,7 @@ impl Header {
     pub fn encode(&self) -> [u8; HEADER_SIZE] {
         let mut bytes = [0; HEADER_SIZE];
         bytes[ROWS_IN_HEADER].copy_from_slice(&self.rows.to_le_bytes());
-        bytes[FIRST_IN_HEADER].copy_from_slice(&self.first.to_le_bytes());
+        bytes[FIRST_ROW_IN_HEADER].copy_from_slice(&self.first_row.to_le_bytes());
         bytes[NEXT_IN_HEADER].copy_from_slice(&self.next.to_le_bytes());
         let caps = self.caps.map(u64::to_le_bytes);
         bytes[CAPS_IN_HEADER].copy_from_slice(caps.as_flattened());
@@ -201,13 +201,13 @@ pub fn capacity(length: usize) -> usize {
 }
 
 /// The length of a ledger that has exactly so many rows.
-pub const fn length_for(rows: usize) -> usize {
+pub const fn ledger_size(rows: usize) -> usize {
     HEADER_SIZE + ROW_SIZE * rows
 }
 
 /// Where a row lies in the ledger.
 pub fn row_range(row: usize) -> Range<usize> {
-    length_for(row)..length_for(row + 1)
+    ledger_size(row)..ledger_size(row + 1)
 }
 
 /// Writes header and rows over the start of a ledger, cut where it ends.
@@ -248,7 +248,7 @@ pub fn described(ledger: &[u8]) -> String {
     let mut caps = ledger[CAPS_IN_HEADER].chunks_exact(U64_SIZE);
     let header = Header {
         rows: u32_at(ledger, ROWS_IN_HEADER),
-        first: u32_at(ledger, FIRST_IN_HEADER),
+        first_row: u32_at(ledger, FIRST_ROW_IN_HEADER),
         next: u64_at(ledger, NEXT_IN_HEADER),
         caps: [(); CLASS_COUNT].map(|()| u64_at(caps.next().expect("a cap"), 0..U64_SIZE)),
         row_size: u32_at(ledger, ROW_SIZE_IN_HEADER),
@@ -294,7 +294,7 @@ mod tests {
             (CLASS_IN_LINE, 121, 2),
             (NOTIONAL_IN_LINE, 123, 16),
             (PLUS_IN_LINE, 139, 1),
-            (CURRENCY_IN_LINE, 140, 3),
+            (NOTIONAL_CURRENCY_IN_LINE, 140, 3),
             (LOCATION_IN_LINE, 143, 2),
             (NEWLINE_IN_LINE, 145, 1),
         ];
@@ -308,7 +308,7 @@ mod tests {
     fn the_header() {
         let fields = [
             (ROWS_IN_HEADER, 0, 4),
-            (FIRST_IN_HEADER, 4, 4),
+            (FIRST_ROW_IN_HEADER, 4, 4),
             (NEXT_IN_HEADER, 8, 8),
             (CAPS_IN_HEADER, 16, 40),
             (ROW_SIZE_IN_HEADER, 56, 4),
@@ -316,7 +316,7 @@ mod tests {
         ];
         check(&fields, 64);
         let header = Header::opened(16_000_064, [1, 2, 3, 4, 5]);
-        assert_eq!((header.first, header.row_size), (64, 160));
+        assert_eq!((header.first_row, header.row_size), (64, 160));
         assert_eq!(header.capacity, 100_000);
         let caps = header.encode()[16..56].to_vec();
         assert!(caps.chunks(8).map(|cap| cap[0]).eq(1..=5));
@@ -340,7 +340,7 @@ mod tests {
     #[test]
     fn ledgers() {
         assert_eq!((HEADER_SIZE, ROW_SIZE), (64, 160));
-        assert_eq!((SHORTEST_LEDGER, length_for(1)), (224, 224));
+        assert_eq!((SHORTEST_LEDGER, ledger_size(1)), (224, 224));
         assert_eq!(row_range(1), 224..384);
         for (length, rows) in [
             (0, 0),

@@ -67,7 +67,7 @@ pub fn writes_line(action: &str) -> bool {
 }
 
 /// The status after an action, where the status before admits it.
-pub fn step(action: &str, status: u8) -> Option<u8> {
+pub fn status_after(action: &str, status: u8) -> Option<u8> {
     match (action, status) {
         ("NEWT", UNKNOWN) => Some(LIVE),
         ("MODI", LIVE) => Some(LIVE),
@@ -83,6 +83,6 @@ pub fn step(action: &str, status: u8) -> Option<u8> {
 /// The statuses that admit an action.
 pub fn admitting(action: &str) -> Vec<u8> {
     (UNKNOWN..=PORTED)
-        .filter(|&status| step(action, status).is_some())
+        .filter(|&status| status_after(action, status).is_some())
         .collect()
 }

@@ -1,6 +1,6 @@
 //! Messages: elements by code, and their bytes.
 
-pub use crate::layout::HIGHEST_CODE;
+pub use crate::layout::LAST_CODE;
 
 /// The longest message.
 pub const LONGEST_MESSAGE: usize = 2_048;
@@ -12,7 +12,7 @@ pub const ENTRY_SIZE: usize = 4;
 /// The elements of a message by code.
 #[derive(Clone, Debug, Default, PartialEq, Eq)]
 pub struct Message {
-    values: [Option<Vec<u8>>; HIGHEST_CODE as usize + 1],
+    values: [Option<Vec<u8>>; LAST_CODE as usize + 1],
 }
 
 impl Message {
@@ -59,7 +59,7 @@ impl Message {
 
     /// The codes that are there, rising.
     pub fn codes(&self) -> Vec<u8> {
-        (1..=HIGHEST_CODE).filter(|&code| self.has(code)).collect()
+        (1..=LAST_CODE).filter(|&code| self.has(code)).collect()
     }
 
     /// The message's bytes: count, entries, values.
@@ -85,7 +85,7 @@ impl Message {
         let mut starts = Vec::new();
         for place in places {
             let code = u8::try_from(number(bytes, place)?).ok()?;
-            if !(1..=HIGHEST_CODE).contains(&code) {
+            if !(1..=LAST_CODE).contains(&code) {
                 return None;
             }
             starts.push((code, number(bytes, place + 2)?));

@@ -66,7 +66,7 @@ impl Mix {
     /// Opens another ledger for life cycles.
     fn open(&mut self) -> Result<(), Mismatch> {
         let rows = *self.random.pick(&[1, 2, 3, 7, 20, 60, 400]);
-        let length = layout::length_for(rows) + self.random.below(ROW_SIZE);
+        let length = layout::ledger_size(rows) + self.random.below(ROW_SIZE);
         let caps = values::caps(&mut self.random);
         self.long.set_ledger(&self.random.bytes(length));
         self.long.try_open(&caps)?;
@@ -133,7 +133,7 @@ impl Mix {
     fn flipped_ledger(&mut self) -> Result<(), Mismatch> {
         let message = next_message(&mut self.random, &self.model, &self.utis);
         let mut ledger = self.long.ledger().to_vec();
-        let used = layout::length_for(self.model.rows.len());
+        let used = layout::ledger_size(self.model.rows.len());
         garbage::flip(&mut self.random, &mut ledger[..used]);
         self.single.set_ledger(&ledger);
         self.submit_single(&message.encode())

@@ -1,6 +1,6 @@
 //! Counts of what was asked and answered.
 
-use crate::message::HIGHEST_CODE;
+use crate::message::LAST_CODE;
 use crate::order::{HIGHEST_VERDICT, OPENING, SUBMITTING};
 use sdr::{Answer, ACCEPTED};
 use std::fmt;
@@ -8,7 +8,7 @@ use std::fmt;
 /// The verdict numbers, from 0.
 const VERDICTS: usize = HIGHEST_VERDICT as usize + 1;
 /// The element codes, and 0 for none.
-const CODES: usize = HIGHEST_CODE as usize + 1;
+const CODES: usize = LAST_CODE as usize + 1;
 
 /// How often each verdict, with each element, was answered.
 #[derive(Clone)]

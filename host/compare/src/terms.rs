@@ -26,7 +26,7 @@ const BANDS: [(u128, u128); 8] = [
 /// Larger amounts are rounded to this.
 const LARGEST_STEP: u128 = 50_000_000_000;
 /// The lowest amount shown.
-const LOWEST_SHOWN: u128 = 5;
+const LEAST_SHOWN: u128 = 5;
 
 /// A sound amount, counted in units of its last possible place.
 pub fn exact(amount: &[u8]) -> u128 {
@@ -52,7 +52,7 @@ fn step(exact: u128) -> u128 {
 pub fn rounded(exact: u128) -> u128 {
     let step = step(exact);
     let steps = (2 * exact + step * UNIT) / (2 * step * UNIT);
-    (steps * step).max(LOWEST_SHOWN)
+    (steps * step).max(LEAST_SHOWN)
 }
 
 /// The amount shown and whether a plus sign follows.
@@ -127,7 +127,7 @@ pub fn terms_of(message: &Message, caps: &[u64; 5]) -> [u8; TERMS_SIZE] {
     put(CLASS_IN_LINE, message.value(25));
     put(NOTIONAL_IN_LINE, &digits(amount, NOTIONAL_SIZE));
     put(PLUS_IN_LINE, if plus { b"+" } else { b"" });
-    put(CURRENCY_IN_LINE, message.value(21));
+    put(NOTIONAL_CURRENCY_IN_LINE, message.value(21));
     put(LOCATION_IN_LINE, message.value(22));
     line[TERMS_IN_LINE].try_into().expect("the terms' size")
 }
@@ -169,9 +169,9 @@ pub fn line_of(
     terms: &[u8; TERMS_SIZE],
 ) -> [u8; LINE_SIZE] {
     let mut line = [b' '; LINE_SIZE];
-    line[IDENTIFIER_IN_LINE].copy_from_slice(&digits(identifier, DIGITS_SIZE));
+    line[IDENTIFIER_IN_LINE].copy_from_slice(&digits(identifier, IDENTIFIER_DIGITS));
     if let Some(previous) = previous {
-        line[PREVIOUS_IN_LINE].copy_from_slice(&digits(previous, DIGITS_SIZE));
+        line[PREVIOUS_IN_LINE].copy_from_slice(&digits(previous, IDENTIFIER_DIGITS));
     }
     line[ACTION_IN_LINE].copy_from_slice(message.value(2));
     if let Some(event) = message.get(3) {

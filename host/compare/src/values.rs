@@ -246,7 +246,7 @@ pub fn amount_masked_alike(random: &mut Random, amount: &[u8], cap: u64) -> Vec<
             1 => self::amount(random),
             _ => [b"0", amount].concat(),
         };
-        if other != amount && is_amount(&other) && masked(&other, cap) == due {
+        if other != amount && is_notional(&other) && masked(&other, cap) == due {
             return other;
         }
     }
@@ -266,7 +266,7 @@ fn beside(random: &mut Random, shown: (u64, bool)) -> Vec<u8> {
 }
 
 /// Whether an amount that one of the generators made keeps its form.
-fn is_amount(amount: &[u8]) -> bool {
+fn is_notional(amount: &[u8]) -> bool {
     let digits = amount.iter().filter(|byte| byte.is_ascii_digit()).count();
     let point = amount.iter().position(|&byte| byte == b'.');
     digits <= 25 && point.map_or(0, |at| amount.len() - at - 1) <= 5

@@ -2,24 +2,24 @@
 //! step to each side. What is expected is derived by hand.
 
 use compare::compared::Compared;
-use compare::layout::{self, length_for, Header, Row, CAPACITY_IN_HEADER, HEADER_SIZE};
+use compare::layout::{self, ledger_size, Header, Row, CAPACITY_IN_HEADER, HEADER_SIZE};
 use compare::layout::{CLASS_IN_LINE, IDENTIFIER_IN_LINE, NEWLINE_IN_LINE, NOTIONAL_IN_LINE};
-use compare::layout::{HIGHEST_NEXT, LARGEST_CAPACITY, LINE_SIZE, NEXT_IN_HEADER};
+use compare::layout::{IDENTIFIER_LIMIT, LARGEST_CAPACITY, LINE_SIZE, NEXT_IN_HEADER};
 use compare::layout::{NOTIONAL_SIZE, SHORTEST_LEDGER, UTI_SIZE};
 use compare::layout::{PLUS_IN_LINE, PREVIOUS_IN_LINE, PRICE_IN_LINE, PRICE_SIZE};
-use compare::message::{Message, HIGHEST_CODE, LONGEST_MESSAGE};
+use compare::message::{Message, LAST_CODE, LONGEST_MESSAGE};
 use compare::sound::{plain_new, plain_package, plain_short};
 use compare::terms::{terms_of, CLASSES};
 use compare::values::{lei_of, remainder};
 use sdr::Answer;
 
 const CAPS: [u64; 5] = [250_000_000; 5];
-const HIGHEST_CAP: u64 = 1_000_000_000_000_000;
+const LARGEST_CAP: u64 = 1_000_000_000_000_000;
 
 /// A fresh ledger of two rows and a tape buffer.
 fn opened(caps: [u64; 5]) -> Compared {
     let mut compared = Compared::new();
-    compared.set_ledger(&vec![0xee; length_for(2)]);
+    compared.set_ledger(&vec![0xee; ledger_size(2)]);
     compared.set_tape(&[b'x'; LINE_SIZE]);
     assert_eq!(compared.open(&caps).verdict, 0);
     compared
@@ -63,8 +63,8 @@ fn lengths_of_a_message() {
     assert_eq!(judged(&[0, 1]), (5, 0));
     assert_eq!(judged(&[1, 0, 1, 0, 6, 0]), (5, 0));
     assert_eq!(judged(&[1, 0, 1, 0, 6, 0, b'A']), (6, 2));
-    assert_eq!(judged(&[1, 0, HIGHEST_CODE, 0, 6, 0, b'A']), (6, 2));
-    assert_eq!(judged(&[1, 0, HIGHEST_CODE + 1, 0, 6, 0, b'A']), (5, 0));
+    assert_eq!(judged(&[1, 0, LAST_CODE, 0, 6, 0, b'A']), (6, 2));
+    assert_eq!(judged(&[1, 0, LAST_CODE + 1, 0, 6, 0, b'A']), (5, 0));
     assert_eq!(judged(&[1, 0, 0, 0, 6, 0, b'A']), (5, 0));
     assert_eq!(judged(&[1, 0, 1, 0, 5, 0, b'A']), (5, 0));
     assert_eq!(judged(&[1, 0, 1, 0, 7, 0, b'A']), (5, 0));
@@ -89,7 +89,7 @@ fn message_of_length(length: usize) -> Vec<u8> {
 fn all_elements_at_once() {
     let mut message = plain_package("1", "5");
     message.set(11, "True").set(22, "US");
-    assert_eq!(message.codes().len(), usize::from(HIGHEST_CODE));
+    assert_eq!(message.codes().len(), usize::from(LAST_CODE));
     assert_eq!(judged(&message.encode()), (0, 0));
     assert_eq!(judged(&message.with(25, "XX").encode()), (9, 25));
 }
@@ -297,7 +297,7 @@ const BANDS: [(&str, u64); 77] = [
 #[test]
 fn bands_and_ties() {
     for (amount, due) in BANDS {
-        assert_eq!(shown(amount, HIGHEST_CAP), (due, ' '), "{amount}");
+        assert_eq!(shown(amount, LARGEST_CAP), (due, ' '), "{amount}");
     }
 }
 
@@ -318,11 +318,11 @@ fn amounts_at_below_and_above_a_cap() {
         ("1000.00001", 1_000, (1_000, '+')),
         ("1049.99999", 1_000, (1_000, '+')),
         ("3", 1_000, (5, ' ')),
-        ("1000000000000000", HIGHEST_CAP, (HIGHEST_CAP, ' ')),
-        ("1000000000000000.00001", HIGHEST_CAP, (HIGHEST_CAP, '+')),
-        ("9999999999999999999999999", HIGHEST_CAP, (HIGHEST_CAP, '+')),
+        ("1000000000000000", LARGEST_CAP, (LARGEST_CAP, ' ')),
+        ("1000000000000000.00001", LARGEST_CAP, (LARGEST_CAP, '+')),
+        ("9999999999999999999999999", LARGEST_CAP, (LARGEST_CAP, '+')),
         ("18446744073709551616", 1_000, (1_000, '+')),
-        ("18446744073709551621", HIGHEST_CAP, (HIGHEST_CAP, '+')),
+        ("18446744073709551621", LARGEST_CAP, (LARGEST_CAP, '+')),
     ] {
         assert_eq!(shown(amount, cap), due, "{amount} under {cap}");
     }
@@ -364,7 +364,7 @@ fn caps_at_opening() {
         100_000_000_000,
         150_000_000_000,
         999_950_000_000_000,
-        HIGHEST_CAP,
+        LARGEST_CAP,
     ];
     let wrong = [
         0,
@@ -385,8 +385,8 @@ fn caps_at_opening() {
         1_050_000_000,
         101_000_000_000,
         999_999_999_999_999,
-        HIGHEST_CAP + 1,
-        HIGHEST_CAP + 50_000_000_000,
+        LARGEST_CAP + 1,
+        LARGEST_CAP + 50_000_000_000,
         1 << 63,
         u64::MAX,
     ];
@@ -394,7 +394,7 @@ fn caps_at_opening() {
     for (cap, due) in cases.chain(wrong.map(|cap| (cap, 2))) {
         for place in 0..5 {
             let mut compared = Compared::new();
-            compared.set_ledger(&vec![0xee; length_for(1)]);
+            compared.set_ledger(&vec![0xee; ledger_size(1)]);
             let mut caps = CAPS;
             caps[place] = cap;
             assert_eq!(compared.open(&caps).verdict, due, "{cap}");
@@ -512,12 +512,12 @@ fn lengths_of_a_ledger() {
         (SHORTEST_LEDGER - 1, 1, 0),
         (SHORTEST_LEDGER, 0, 1),
         (SHORTEST_LEDGER + 1, 0, 1),
-        (length_for(2) - 1, 0, 1),
-        (length_for(2), 0, 2),
-        (length_for(LARGEST_CAPACITY) - 1, 0, LARGEST_CAPACITY - 1),
-        (length_for(LARGEST_CAPACITY), 0, LARGEST_CAPACITY),
-        (length_for(LARGEST_CAPACITY) + 1, 0, LARGEST_CAPACITY),
-        (length_for(LARGEST_CAPACITY + 1), 0, LARGEST_CAPACITY),
+        (ledger_size(2) - 1, 0, 1),
+        (ledger_size(2), 0, 2),
+        (ledger_size(LARGEST_CAPACITY) - 1, 0, LARGEST_CAPACITY - 1),
+        (ledger_size(LARGEST_CAPACITY), 0, LARGEST_CAPACITY),
+        (ledger_size(LARGEST_CAPACITY) + 1, 0, LARGEST_CAPACITY),
+        (ledger_size(LARGEST_CAPACITY + 1), 0, LARGEST_CAPACITY),
     ] {
         let mut compared = Compared::new();
         compared.set_ledger(&vec![0xee; length]);
@@ -536,9 +536,9 @@ fn lengths_of_a_ledger() {
 fn rows_up_to_capacity() {
     for (length, rows) in [
         (SHORTEST_LEDGER, 1),
-        (length_for(2) - 1, 1),
-        (length_for(2), 2),
-        (length_for(6) - 1, 5),
+        (ledger_size(2) - 1, 1),
+        (ledger_size(2), 2),
+        (ledger_size(6) - 1, 5),
     ] {
         let mut compared = Compared::new();
         compared.set_ledger(&vec![0xee; length]);
@@ -564,7 +564,7 @@ fn swap(n: u64) -> Message {
 
 /// A ledger of two rows in which the plain swap is live.
 fn in_use(next: u64, identifier: u64) -> Vec<u8> {
-    let mut ledger = vec![0xee; length_for(2)];
+    let mut ledger = vec![0xee; ledger_size(2)];
     let mut header = Header::opened(ledger.len(), CAPS);
     header.rows = 1;
     header.next = next;
@@ -587,28 +587,33 @@ fn the_next_identifier_at_its_end() {
     let ended = plain_short("TERM", Some("ETRM"));
     let ported = plain_short("PRTO", Some("PTNG"));
     for message in [&new, &ended] {
-        let (answer, compared) = submit_to(&in_use(HIGHEST_NEXT - 1, 1), message);
+        let (answer, compared) = submit_to(&in_use(IDENTIFIER_LIMIT - 1, 1), message);
         assert_eq!((answer.verdict, answer.identifier), (0, 999_999_999_999));
         assert_eq!(compared.tape()[IDENTIFIER_IN_LINE], *b"999999999999");
         let next = layout::u64_at(compared.ledger(), NEXT_IN_HEADER);
-        assert_eq!(next, HIGHEST_NEXT);
-        assert_eq!(submit_to(&in_use(HIGHEST_NEXT, 1), message).0.verdict, 18);
+        assert_eq!(next, IDENTIFIER_LIMIT);
         assert_eq!(
-            submit_to(&in_use(HIGHEST_NEXT + 1, 1), message).0.verdict,
+            submit_to(&in_use(IDENTIFIER_LIMIT, 1), message).0.verdict,
+            18
+        );
+        assert_eq!(
+            submit_to(&in_use(IDENTIFIER_LIMIT + 1, 1), message)
+                .0
+                .verdict,
             3
         );
         assert_eq!(submit_to(&in_use(0, 1), message).0.verdict, 3);
     }
     for (next, verdict) in [
-        (HIGHEST_NEXT - 1, 0),
-        (HIGHEST_NEXT, 0),
-        (HIGHEST_NEXT + 1, 3),
+        (IDENTIFIER_LIMIT - 1, 0),
+        (IDENTIFIER_LIMIT, 0),
+        (IDENTIFIER_LIMIT + 1, 3),
     ] {
         let (answer, _) = submit_to(&in_use(next, 1), &ported);
         assert_eq!((answer.verdict, answer.identifier), (verdict, 0));
     }
     // A last identifier of 999,999,999,999 is shown as the previous one.
-    let (answer, _) = submit_to(&in_use(HIGHEST_NEXT, HIGHEST_NEXT - 1), &ported);
+    let (answer, _) = submit_to(&in_use(IDENTIFIER_LIMIT, IDENTIFIER_LIMIT - 1), &ported);
     assert_eq!(answer.verdict, 0);
 }
 
@@ -681,7 +686,7 @@ fn lengths_of_a_tape_buffer() {
 
 #[test]
 fn a_hundred_thousand_rows() {
-    let length = length_for(100_000);
+    let length = ledger_size(100_000);
     let mut header = Header::opened(length, CAPS);
     header.rows = 100_000;
     header.next = 200_000;

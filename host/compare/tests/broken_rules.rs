@@ -2,12 +2,12 @@
 //! is that of the first in checking order, with the lowest element at fault.
 
 use compare::compared::Compared;
-use compare::faults::{self, Case, Fault, HIGHEST_SHORT};
+use compare::faults::{self, Case, Fault, LAST_SHORT};
 use compare::faults::{CONDITIONAL, NEEDED_BY_ALL, NEEDED_BY_FULL};
-use compare::layout::{length_for, HEADER_SIZE, SHORTEST_LEDGER};
+use compare::layout::{ledger_size, HEADER_SIZE, SHORTEST_LEDGER};
 use compare::malformed;
 use compare::matrix::{is_full, ACTIONS};
-use compare::message::{described, HIGHEST_CODE};
+use compare::message::{described, LAST_CODE};
 use compare::order::SUBMITTING;
 use compare::random::Random;
 use compare::tally::Tally;
@@ -103,12 +103,12 @@ fn every_malformed_value() {
     let mut random = Random::for_test(105);
     let mut compared = Compared::new();
     for action in ACTIONS {
-        let highest = if is_full(action) {
-            HIGHEST_CODE
+        let last = if is_full(action) {
+            LAST_CODE
         } else {
-            HIGHEST_SHORT
+            LAST_SHORT
         };
-        for code in 1..=highest {
+        for code in 1..=last {
             for value in malformed::values(code) {
                 let mut case = Case::sound(&mut random, action);
                 case.message.set(code, &value);
@@ -123,7 +123,7 @@ fn every_malformed_value() {
         }
     }
     println!("malformed values: {}", compared.tally);
-    for code in (1..=HIGHEST_CODE).filter(|&code| code != 2) {
+    for code in (1..=LAST_CODE).filter(|&code| code != 2) {
         assert!(compared.tally.element(9, code) >= 4, "9 with {code}");
     }
 }
@@ -141,13 +141,13 @@ fn opening_refuses_1_before_2() {
     }
     for place in 0..5 {
         for cap in wrong {
-            compared.set_ledger(&random.bytes(length_for(2)));
+            compared.set_ledger(&random.bytes(ledger_size(2)));
             let mut caps = values::caps(&mut random);
             caps[place] = cap;
             assert_eq!(compared.open(&caps).verdict, 2, "{caps:?}");
         }
     }
-    compared.set_ledger(&random.bytes(length_for(2)));
+    compared.set_ledger(&random.bytes(ledger_size(2)));
     assert_eq!(compared.open(&values::caps(&mut random)).verdict, 0);
     println!("opening: {}", compared.tally);
     assert!((0..=2).all(|verdict| compared.tally.verdict(verdict) > 0));
@@ -165,10 +165,10 @@ fn every_element_was_met(tally: &Tally) {
     for code in NEEDED_BY_ALL.into_iter().chain(NEEDED_BY_FULL) {
         assert!(tally.element(7, code) > 0, "7 with {code}");
     }
-    for code in HIGHEST_SHORT + 1..=HIGHEST_CODE {
+    for code in LAST_SHORT + 1..=LAST_CODE {
         assert!(tally.element(8, code) > 0, "8 with {code}");
     }
-    for code in (1..=HIGHEST_CODE).filter(|&code| code != 2) {
+    for code in (1..=LAST_CODE).filter(|&code| code != 2) {
         assert!(tally.element(9, code) > 0, "9 with {code}");
     }
     for code in CONDITIONAL {

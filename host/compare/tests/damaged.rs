@@ -3,8 +3,8 @@
 use compare::compared::Compared;
 use compare::cycles::{next_message, Model};
 use compare::garbage::flip;
-use compare::layout::{self, length_for, Header, Row, EXECUTION_IN_TERMS, HEADER_SIZE};
-use compare::layout::{HIGHEST_NEXT, LARGEST_CAPACITY, LINE_SIZE, PREVIOUS_IN_LINE};
+use compare::layout::{self, ledger_size, Header, Row, EXECUTION_IN_TERMS, HEADER_SIZE};
+use compare::layout::{IDENTIFIER_LIMIT, LARGEST_CAPACITY, LINE_SIZE, PREVIOUS_IN_LINE};
 use compare::layout::{ROW_SIZE, SHORTEST_LEDGER, TERMS_IN_LINE};
 use compare::message::Message;
 use compare::random::Random;
@@ -75,7 +75,7 @@ fn other_sizes(size: usize) -> Vec<u32> {
 
 #[test]
 fn each_field_of_the_header() {
-    let length = length_for(5) + 9;
+    let length = ledger_size(5) + 9;
     let sound = header(length);
     assert_eq!(verdicts(&ledger_of(&sound, &rows(), length)), (0, 0));
     let mut damaged: Vec<Header> = Vec::new();
@@ -88,9 +88,9 @@ fn each_field_of_the_header() {
         add(&|header| header.rows = rows);
     }
     for first in other_sizes(HEADER_SIZE) {
-        add(&|header| header.first = first);
+        add(&|header| header.first_row = first);
     }
-    for next in [0, HIGHEST_NEXT + 1, 1 << 40, 1 << 63, u64::MAX] {
+    for next in [0, IDENTIFIER_LIMIT + 1, 1 << 40, 1 << 63, u64::MAX] {
         add(&|header| header.next = next);
     }
     for row_size in other_sizes(ROW_SIZE) {
@@ -112,14 +112,14 @@ fn each_field_of_the_header() {
 
 #[test]
 fn headers_that_look_odd_and_are_sound() {
-    let length = length_for(5);
+    let length = ledger_size(5);
     let mut odd = header(length);
     // Next and rows in use need not fit together; rows may equal capacity.
-    odd.next = HIGHEST_NEXT;
+    odd.next = IDENTIFIER_LIMIT;
     assert_eq!(verdicts(&ledger_of(&odd, &rows(), length)), (18, 0));
-    let mut full = header(length_for(3));
+    let mut full = header(ledger_size(3));
     full.next = 10;
-    assert_eq!(verdicts(&ledger_of(&full, &rows(), length_for(3))), (0, 0));
+    assert_eq!(verdicts(&ledger_of(&full, &rows(), ledger_size(3))), (0, 0));
     // No row in use: the swap is unknown.
     let mut empty = header(length);
     empty.rows = 0;
@@ -130,20 +130,20 @@ fn headers_that_look_odd_and_are_sound() {
 
 #[test]
 fn a_ledger_lent_shorter_or_longer() {
-    let opened = header(length_for(5));
+    let opened = header(ledger_size(5));
     for (length, due) in [
-        (length_for(5), (0, 0)),
-        (length_for(6) - 1, (0, 0)),
-        (length_for(6), (3, 3)),
-        (length_for(5) - 1, (3, 3)),
-        (length_for(3), (3, 3)),
+        (ledger_size(5), (0, 0)),
+        (ledger_size(6) - 1, (0, 0)),
+        (ledger_size(6), (3, 3)),
+        (ledger_size(5) - 1, (3, 3)),
+        (ledger_size(3), (3, 3)),
         (SHORTEST_LEDGER, (3, 3)),
         (SHORTEST_LEDGER - 1, (3, 3)),
         (HEADER_SIZE, (3, 3)),
         (HEADER_SIZE - 1, (3, 3)),
         (0, (3, 3)),
     ] {
-        let mut ledger = ledger_of(&opened, &rows(), length_for(7));
+        let mut ledger = ledger_of(&opened, &rows(), ledger_size(7));
         ledger.truncate(length);
         assert_eq!(verdicts(&ledger), due, "{length}");
     }
@@ -151,14 +151,14 @@ fn a_ledger_lent_shorter_or_longer() {
 
 /// The verdicts where the plain swap's row is changed.
 fn verdicts_with(change: impl Fn(&mut Row)) -> (u8, u8) {
-    let length = length_for(5);
+    let length = ledger_size(5);
     let mut rows = rows();
     change(&mut rows[1]);
     verdicts(&ledger_of(&header(length), &rows, length))
 }
 
 #[test]
-fn rows_with_a_bad_status_or_identifier() {
+fn rows_with_a_wrong_status_or_identifier() {
     for status in [0, 5, 6, 49, 128, 255] {
         assert_eq!(
             verdicts_with(|row| row.status = status),
@@ -177,8 +177,8 @@ fn rows_with_a_bad_status_or_identifier() {
 }
 
 #[test]
-fn a_bad_row_of_another_swap_is_no_fault() {
-    let length = length_for(5);
+fn a_wrong_row_of_another_swap_is_no_fault() {
+    let length = ledger_size(5);
     for row in [0, 2] {
         let mut rows = rows();
         rows[row].status = 9;
@@ -218,7 +218,7 @@ fn padding_terms_and_tail_are_not_judged() {
 
 #[test]
 fn a_change_leaves_padding_and_tail() {
-    let length = length_for(5);
+    let length = ledger_size(5);
     let mut rows = rows();
     rows[1].uti[24..].fill(b'Z');
     rows[1].tail = [9, 8, 7, 6, 5];
@@ -246,7 +246,7 @@ fn a_change_leaves_padding_and_tail() {
 
 #[test]
 fn the_first_of_two_rows_with_one_uti_counts() {
-    let length = length_for(5);
+    let length = ledger_size(5);
     let mut rows = rows();
     rows[2] = rows[1].clone();
     rows[1].status = CLOSED;
@@ -261,7 +261,7 @@ fn the_first_of_two_rows_with_one_uti_counts() {
     assert_eq!(compared.submit(&ended.encode()).identifier, NEXT);
     assert_eq!(compared.tape()[PREVIOUS_IN_LINE], *b"000000000011");
     assert_eq!(compared.ledger()[layout::row_range(2)], rows[2].encode());
-    // A bad first row is 14, though the second is sound.
+    // A wrong first row is 14, though the second is sound.
     rows[1].status = 0;
     let mut compared = lent(&ledger_of(&header(length), &rows, length));
     let refused = Answer {
@@ -275,7 +275,7 @@ fn the_first_of_two_rows_with_one_uti_counts() {
 /// A ledger that has seen some life, with its model and the swaps' UTIs.
 fn lived(random: &mut Random) -> (Vec<u8>, Model, Vec<Vec<u8>>) {
     let rows = random.between(2, 12);
-    let length = length_for(rows) + random.below(ROW_SIZE);
+    let length = ledger_size(rows) + random.below(ROW_SIZE);
     let mut model = Model::opened(length, values::caps(random));
     let utis = values::utis(random, rows + 1);
     for _ in 0..30 {

@@ -3,9 +3,9 @@
 
 use compare::compared::Compared;
 use compare::garbage::{noise, wild_message};
-use compare::layout::{length_for, Header, HEADER_SIZE, HIGHEST_NEXT, LINE_SIZE, ROW_SIZE};
+use compare::layout::{ledger_size, Header, HEADER_SIZE, IDENTIFIER_LIMIT, LINE_SIZE, ROW_SIZE};
 use compare::matrix::ACTIONS;
-use compare::message::{HIGHEST_CODE, LONGEST_MESSAGE};
+use compare::message::{LAST_CODE, LONGEST_MESSAGE};
 use compare::random::Random;
 use compare::sound::{self, plain_new, plain_package};
 use compare::{submissions, values};
@@ -31,11 +31,11 @@ fn noise_ledger(random: &mut Random) -> Vec<u8> {
     if random.once_in(2) {
         return noise(random, 1_000);
     }
-    let length = length_for(random.between(1, 4)) + random.below(ROW_SIZE);
+    let length = ledger_size(random.between(1, 4)) + random.below(ROW_SIZE);
     let mut ledger = random.bytes(length);
     let mut header = Header::opened(length, values::caps(random));
     header.rows = random.below(header.capacity as usize + 1) as u32;
-    header.next = 1 + random.bits() % HIGHEST_NEXT;
+    header.next = 1 + random.bits() % IDENTIFIER_LIMIT;
     ledger[..HEADER_SIZE].copy_from_slice(&header.encode());
     ledger
 }
@@ -62,7 +62,7 @@ fn wild_values_under_a_sound_action() {
         let uti = values::uti(&mut random);
         let mut message = sound::message(&mut random, action, &uti);
         for _ in 0..random.between(1, 3) {
-            let code = random.between(1, HIGHEST_CODE.into()) as u8;
+            let code = random.between(1, LAST_CODE.into()) as u8;
             if code != 2 && message.has(code) {
                 let length = random.between(1, 30);
                 let value = random.text(length, b"0123456789.-:TZAYaz ");
@@ -80,7 +80,7 @@ const TAPE: usize = LINE_SIZE + 24;
 
 fn opened(random: &mut Random) -> Compared {
     let mut compared = Compared::new();
-    compared.set_ledger(&random.bytes(length_for(3)));
+    compared.set_ledger(&random.bytes(ledger_size(3)));
     compared.set_tape(&random.bytes(TAPE));
     assert_eq!(compared.open(&[250_000_000; 5]).verdict, 0);
     compared

@@ -3,11 +3,11 @@
 
 use compare::compared::Compared;
 use compare::cycles::{next_message, Model};
-use compare::faults::HIGHEST_SHORT;
+use compare::faults::LAST_SHORT;
 use compare::histories::{broken_premises, run, Call, History, Premise};
-use compare::layout::{length_for, LINE_SIZE, NEXT_IN_HEADER, ROW_SIZE};
+use compare::layout::{ledger_size, LINE_SIZE, NEXT_IN_HEADER, ROW_SIZE};
 use compare::malformed;
-use compare::message::{Message, HIGHEST_CODE};
+use compare::message::{Message, LAST_CODE};
 use compare::random::Random;
 use compare::sound::{self, plain_new, plain_package};
 use compare::terms::{applies, is_true, CLASSES};
@@ -49,14 +49,14 @@ fn lengths(random: &mut Random) -> (usize, usize) {
     if random.once_in(2) {
         let rows = random.between(1, SWAPS - 1);
         return (
-            length_for(rows),
-            length_for(rows) + random.between(1, ROW_SIZE - 1),
+            ledger_size(rows),
+            ledger_size(rows) + random.between(1, ROW_SIZE - 1),
         );
     }
     let longer = SWAPS + random.between(1, 9);
     (
-        length_for(SWAPS),
-        length_for(longer) + random.below(ROW_SIZE),
+        ledger_size(SWAPS),
+        ledger_size(longer) + random.below(ROW_SIZE),
     )
 }
 
@@ -158,7 +158,7 @@ fn refused(random: &mut Random, verdict: u8) -> Call {
         6 => full.with(2, random.pick(&malformed::values(2))),
         7 => full.without(*random.pick(&[1, 4, 5, 6, 9, 12, 20, 25])),
         8 => {
-            let codes: Vec<u8> = (HIGHEST_SHORT + 1..=HIGHEST_CODE).collect();
+            let codes: Vec<u8> = (LAST_SHORT + 1..=LAST_CODE).collect();
             short.with(*random.pick(&codes), "value")
         }
         9 => {
@@ -223,7 +223,7 @@ fn plain(messages: &[Message]) -> History {
         tape: vec![b'x'; LINE_SIZE],
     };
     History {
-        ledger: vec![0; length_for(5)],
+        ledger: vec![0; ledger_size(5)],
         caps: [250_000_000; 5],
         tampering: (0, Vec::new()),
         calls: messages.iter().map(call).collect(),
@@ -358,7 +358,7 @@ fn an_opening_broken() {
 
     // Opening is refused, since a cap is wrong, over a ledger in use.
     let mut refused = ending_with(swap(3));
-    let mut ledger = vec![0; length_for(5)];
+    let mut ledger = vec![0; ledger_size(5)];
     let mut header = compare::layout::Header::opened(ledger.len(), first.caps);
     header.next = 70;
     compare::layout::write(&mut ledger, &header, &[]);

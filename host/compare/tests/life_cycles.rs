@@ -3,7 +3,7 @@
 
 use compare::compared::Compared;
 use compare::cycles::{next_message, Model};
-use compare::layout::{self, length_for, HIGHEST_NEXT, LARGEST_CAPACITY, LINE_SIZE};
+use compare::layout::{self, ledger_size, IDENTIFIER_LIMIT, LARGEST_CAPACITY, LINE_SIZE};
 use compare::layout::{ROW_SIZE, SHORTEST_LEDGER};
 use compare::matrix::{self, ACTIONS};
 use compare::message::{described, Message};
@@ -15,14 +15,14 @@ use std::collections::BTreeSet;
 /// Lengths of ledgers, from one row to 400.
 const LENGTHS: [usize; 9] = [
     SHORTEST_LEDGER,
-    length_for(2) - 1,
-    length_for(2),
-    length_for(3) + 17,
-    length_for(9) - 1,
-    length_for(20),
-    length_for(60) + 1,
-    length_for(150),
-    length_for(400),
+    ledger_size(2) - 1,
+    ledger_size(2),
+    ledger_size(3) + 17,
+    ledger_size(9) - 1,
+    ledger_size(20),
+    ledger_size(60) + 1,
+    ledger_size(150),
+    ledger_size(400),
 ];
 
 /// What the life cycles have met.
@@ -132,7 +132,7 @@ impl Met {
                 (
                     action.to_string(),
                     status,
-                    matrix::step(action, status).is_some(),
+                    matrix::status_after(action, status).is_some(),
                 )
             };
             (0..=4).map(step)
@@ -174,7 +174,7 @@ fn life_cycles_on_ledgers_of_several_sizes() {
 fn a_ledger_of_400_rows_fills_up() {
     let mut random = Random::for_test(20_240_302);
     let mut met = Met::default();
-    let mut ledger = Ledger::open(&mut random, length_for(400), 430);
+    let mut ledger = Ledger::open(&mut random, ledger_size(400), 430);
     for _ in 0..6_000 {
         ledger.step(&mut random, &mut met);
     }
@@ -188,7 +188,7 @@ fn a_ledger_of_400_rows_fills_up() {
 fn a_ledger_longer_than_the_largest_capacity() {
     let mut random = Random::for_test(20_240_303);
     let mut met = Met::default();
-    let length = length_for(LARGEST_CAPACITY) + 7 * ROW_SIZE + 3;
+    let length = ledger_size(LARGEST_CAPACITY) + 7 * ROW_SIZE + 3;
     let mut ledger = Ledger::open(&mut random, length, 12);
     assert_eq!(ledger.model.header.capacity as usize, LARGEST_CAPACITY);
     for _ in 0..60 {
@@ -203,8 +203,8 @@ fn a_ledger_longer_than_the_largest_capacity() {
 fn identifiers_run_out() {
     let mut random = Random::for_test(20_240_304);
     let mut met = Met::default();
-    let mut ledger = Ledger::open(&mut random, length_for(30), 40);
-    ledger.model.header.next = HIGHEST_NEXT - 100;
+    let mut ledger = Ledger::open(&mut random, ledger_size(30), 40);
+    ledger.model.header.next = IDENTIFIER_LIMIT - 100;
     ledger.before[..layout::HEADER_SIZE].copy_from_slice(&ledger.model.header.encode());
     ledger.compared.set_ledger(&ledger.before);
     for _ in 0..1_500 {
@@ -212,7 +212,7 @@ fn identifiers_run_out() {
     }
     ledger.check_ledger();
     println!("spent identifiers: {}", ledger.compared.tally);
-    assert_eq!(ledger.model.header.next, HIGHEST_NEXT);
+    assert_eq!(ledger.model.header.next, IDENTIFIER_LIMIT);
     assert!(ledger.compared.tally.verdict(sdr::IDENTIFIERS_SPENT) > 0);
     // Nothing but PRTO is accepted then.
     let ported = ledger

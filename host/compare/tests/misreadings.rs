@@ -2,7 +2,7 @@
 //! is derived by hand.
 
 use compare::compared::Compared;
-use compare::layout::{length_for, row_range, u32_at, u64_at, HIGHEST_NEXT, LINE_SIZE};
+use compare::layout::{ledger_size, row_range, u32_at, u64_at, IDENTIFIER_LIMIT, LINE_SIZE};
 use compare::layout::{ACTION_IN_LINE, NEWLINE_IN_LINE, NOTIONAL_IN_LINE, PLUS_IN_LINE};
 use compare::layout::{IDENTIFIER_IN_ROW, STATUS_IN_ROW, TERMS_IN_LINE, TERMS_IN_ROW};
 use compare::layout::{NEXT_IN_HEADER, ROWS_IN_HEADER};
@@ -12,7 +12,7 @@ use sdr::{ERRORED, LIVE};
 /// A fresh ledger of three rows with all caps alike, and a tape buffer.
 fn opened(cap: u64) -> Compared {
     let mut compared = Compared::new();
-    compared.set_ledger(&vec![0xee; length_for(3)]);
+    compared.set_ledger(&vec![0xee; ledger_size(3)]);
     compared.set_tape(&[b'x'; LINE_SIZE]);
     assert_eq!(compared.open(&[cap; 5]).verdict, 0);
     compared
@@ -132,7 +132,7 @@ fn spent_identifiers_are_found_before_the_row_is_written() {
     let mut compared = opened(250_000_000);
     assert_eq!(compared.submit(&plain_new().encode()).identifier, 1);
     let mut ledger = compared.ledger().to_vec();
-    ledger[NEXT_IN_HEADER].copy_from_slice(&HIGHEST_NEXT.to_le_bytes());
+    ledger[NEXT_IN_HEADER].copy_from_slice(&IDENTIFIER_LIMIT.to_le_bytes());
     compared.set_ledger(&ledger);
     compared.set_tape(&[b'x'; LINE_SIZE]);
 

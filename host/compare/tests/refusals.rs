@@ -2,7 +2,7 @@
 
 use compare::compared::Compared;
 use compare::faults::{self, Case};
-use compare::layout::{length_for, LINE_SIZE, SHORTEST_LEDGER};
+use compare::layout::{ledger_size, LINE_SIZE, SHORTEST_LEDGER};
 use compare::matrix::ACTIONS;
 use compare::random::Random;
 use compare::sound::plain_new;
@@ -47,7 +47,7 @@ fn a_refused_opening_changes_nothing() {
         (0, CAPS),
         (SHORTEST_LEDGER - 1, CAPS),
         (SHORTEST_LEDGER, [999; 5]),
-        (length_for(9), [0; 5]),
+        (ledger_size(9), [0; 5]),
     ] {
         let ledger = random.bytes(length);
         compared.set_ledger(&ledger);
@@ -65,7 +65,7 @@ fn empty_buffers_are_refused() {
     assert_eq!(compared.submit(&[]), refused(3, 0));
     assert_eq!(compared.submit(&message), refused(3, 0));
     assert_eq!(compared.status(&[]), refused(3, 0));
-    compared.set_ledger(&vec![0; length_for(1)]);
+    compared.set_ledger(&vec![0; ledger_size(1)]);
     assert_eq!(compared.open(&CAPS), Answer::default());
     assert_eq!(compared.submit(&[]), refused(4, 0));
     assert_eq!(compared.submit(&message), refused(4, 0));
@@ -78,7 +78,7 @@ fn empty_buffers_are_refused() {
 #[test]
 fn refusals_leave_the_next_acceptance_alone() {
     let mut compared = Compared::new();
-    compared.set_ledger(&vec![0; length_for(2)]);
+    compared.set_ledger(&vec![0; ledger_size(2)]);
     compared.set_tape(&[b'x'; LINE_SIZE]);
     assert_eq!(compared.open(&CAPS).verdict, 0);
     let sound = plain_new();

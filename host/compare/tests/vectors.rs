@@ -5,7 +5,7 @@
 
 use compare::compared::Compared;
 use compare::faults::{Case, Fault};
-use compare::layout::{self, length_for, Header, Row, CAPACITY_IN_HEADER, EXECUTION_IN_TERMS};
+use compare::layout::{self, ledger_size, Header, Row, CAPACITY_IN_HEADER, EXECUTION_IN_TERMS};
 use compare::layout::{LINE_SIZE, TERMS_IN_LINE};
 use compare::message::Message;
 use compare::random::Random;
@@ -15,7 +15,7 @@ use std::fs;
 use std::path::Path;
 
 const CAPS: [u64; 5] = [250_000_000; 5];
-const HIGHEST_CAPACITY: &str = "100000";
+const LARGEST_CAPACITY: &str = "100000";
 
 /// A line of the table: the rest after the word, and the stored answer.
 struct Line {
@@ -115,7 +115,7 @@ fn utis() {
 
 #[test]
 fn amounts() {
-    try_form("notional", 50, checker::is_amount);
+    try_form("notional", 50, checker::is_notional);
 }
 
 #[test]
@@ -135,7 +135,7 @@ fn caps() {
             line.rest
         );
         let mut compared = Compared::new();
-        compared.set_ledger(&vec![0; length_for(1)]);
+        compared.set_ledger(&vec![0; ledger_size(1)]);
         let verdict = compared.open(&[number(&line.rest); 5]).verdict;
         assert_eq!(verdict, if line.is_yes() { 0 } else { 2 }, "{}", line.rest);
     }
@@ -222,8 +222,8 @@ fn elements() {
 
 /// A fresh ledger of two rows.
 fn opened() -> Vec<u8> {
-    let mut ledger = vec![0xee; length_for(2)];
-    layout::write(&mut ledger, &Header::opened(length_for(2), CAPS), &[]);
+    let mut ledger = vec![0xee; ledger_size(2)];
+    layout::write(&mut ledger, &Header::opened(ledger_size(2), CAPS), &[]);
     ledger
 }
 
@@ -335,7 +335,7 @@ fn masked_terms() {
 
 /// A ledger in which the message's step is admitted.
 fn ledger_for(message: &Message, caps: [u64; 5]) -> Vec<u8> {
-    let mut ledger = vec![0xee; length_for(2)];
+    let mut ledger = vec![0xee; ledger_size(2)];
     let mut header = Header::opened(ledger.len(), caps);
     let action = String::from_utf8_lossy(message.value(2)).into_owned();
     let mut terms = [b' '; layout::TERMS_SIZE];
@@ -355,7 +355,7 @@ fn headers() {
     let mut asked = 0;
     for line in lines("header") {
         let fields = line.fields();
-        if fields[0] != HIGHEST_CAPACITY {
+        if fields[0] != LARGEST_CAPACITY {
             continue;
         }
         asked += 1;
@@ -376,7 +376,7 @@ fn capacities() {
     for line in lines("capacity") {
         let fields = line.fields();
         let length = number(fields[1]) as usize;
-        if fields[0] != HIGHEST_CAPACITY || length > 17_000_000 {
+        if fields[0] != LARGEST_CAPACITY || length > 17_000_000 {
             continue;
         }
         asked += 1;
@@ -405,7 +405,7 @@ fn status_steps() {
         asked += 1;
         let mut case = Case::sound(&mut random, action);
         if line.answer == "-" {
-            case.break_rules(&mut random, &[Fault::Step(status)]);
+            case.break_rules(&mut random, &[Fault::NotAdmitted(status)]);
         }
         while line.answer != "-" && action != "NEWT" && case.rows[case.row].status != status {
             case = Case::sound(&mut random, action);

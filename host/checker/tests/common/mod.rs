@@ -127,7 +127,7 @@ impl Book {
     }
 
     pub fn with_caps(rows: usize, caps: &[u64; 5]) -> Book {
-        let mut ledger = vec![0xEE; sizes::ledger(rows)];
+        let mut ledger = vec![0xEE; sizes::ledger_size(rows)];
         assert_eq!(open(&mut ledger, caps), 0);
         Book {
             ledger,
@@ -169,11 +169,11 @@ impl Book {
     }
 
     pub fn row(&self, place: usize) -> &[u8] {
-        &self.ledger[sizes::ledger(place)..][..row::SIZE]
+        &self.ledger[sizes::ledger_size(place)..][..row::SIZE]
     }
 
     pub fn row_mut(&mut self, place: usize) -> &mut [u8] {
-        &mut self.ledger[sizes::ledger(place)..][..row::SIZE]
+        &mut self.ledger[sizes::ledger_size(place)..][..row::SIZE]
     }
 
     pub fn u32_at(&self, at: usize) -> u32 {

@@ -39,11 +39,10 @@ fn verdicts_are_those_of_the_header() {
 }
 
 /// An element's name as the header writes it. The header leaves out words
-/// of two names.
+/// of one name.
 fn header_name(name: &str) -> String {
     let name = match name {
         "final contractual settlement date" => "settlement date",
-        "non-standardized term" => "non-standardized",
         whole => whole,
     };
     name.to_uppercase().replace([' ', '-'], "_")
