@@ -16,7 +16,7 @@ each with the comment above it:
   every file of DEMANDS from its first definition on
   every statement, the definitions with a capital that it comes to, and the tables and other definitions of its own file that it speaks of
 Every statement is cited: named by an ensures clause, or by a definition with a capital that such a clause comes to. A clause is of Type 0, so a statement
-of a higher type has a law in proofs/ instead. CITED says which functions must cite what.
+of a higher type has a law in proofs/ instead. CITED says which functions must cite what, and FORMS names further functions whose contracts are quoted.
 """
 
 import functools
@@ -36,9 +36,9 @@ DEMANDS = [
     "repository/specs/Demands.antt",
 ]
 
-# what contracts must cite, whatever code and document say
+# what contracts must cite, whatever code and document say: names of definitions, or words of the definitions that they come to
 CITED = {
-    "repository::sdr_open": ["Opening-demands", "Opening-answers", "Opening-exactly", "Opening-writes", "Opening-passes", "Opening-passes-under"],
+    "repository::sdr_open": ["Opening-demands", "Opening-answers", "Opening-exactly", "Opening-writes", "Opening-passes", "Opening-passes-under documentLimits"],
     "repository::sdr_submit": [
         "Submission-demands",
         "Submission-answers",
@@ -53,10 +53,10 @@ CITED = {
         "Quiet-call",
         "Number-carries",
         "Masked-terms-public",
-        "Writes-under",
-        "Same-tapes-under",
-        "Tape-published-under",
-        "Identifier-counts-under",
+        "Writes-under documentLimits",
+        "Same-tapes-under documentLimits",
+        "Tape-published-under documentLimits",
+        "Identifier-counts-under documentLimits",
     ],
     "repository::sdr_status": ["Question-demands", "Question-answers", "Question-exactly", "Number-carries"],
     "message::layout::layout_right": ["Layout-laws", "Values-whole", "Value-filled", "Value-found"],
@@ -68,6 +68,21 @@ CITED = {
     "ledger::line::write_line": ["Document-sizes"],
     "dayrun::run::judge_block": ["Nothing-lost"],
 }
+
+# functions of document 01's forms, whose contracts are quoted too
+FORMS = [
+    "message::start",
+    "message::seek",
+    "message::value",
+    "message::element",
+    "elements::conditions::kept",
+    "actions::table::read_action",
+    "notional::step_of",
+    "rules::checks::lowest_fault",
+    "rules::judge",
+    "ledger::rows::store_row",
+    "dayrun::output::waiting",
+]
 
 TEST_PROGRAMS = ["vectors"]
 
@@ -240,7 +255,7 @@ def statements():
 def due():
     """File, name and text of what the document must quote."""
     for name, file, contract in contracts():
-        if 'extern "C"' in contract or named(file, promised(contract)) & statements():
+        if 'extern "C"' in contract or name in FORMS or named(file, promised(contract)) & statements():
             yield file, name, contract
     for file in DEMANDS:
         for paragraph in paragraphs(file):
@@ -288,9 +303,10 @@ def citation_faults():
         if not is_stated(file, name):
             yield "no contract cites %s#%s" % (file, name)
     for function, names in CITED.items():
-        have = {name for _, name in cited.get(function, [])}
+        found = cited.get(function, set())
+        words = " ".join(" ".join(definitions(file)[name].split()) for file, name in found)
         for name in names:
-            if name not in have:
+            if name not in {n for _, n in found} and not (" " in name and name in words):
                 yield "the contract of %s does not cite %s" % (function, name)
 
 

@@ -40,7 +40,8 @@ impl<'a> Reader<'a> {
 
     // The value of the entry that the reader has come to: that part of the message itself.
     pub fn value(self) -> &'a [u8]
-        ensures { λ r. ⌜ (now r ≡ valueAt (now (self .entry .src)) (self .entry .at)) × PartOf (self .entry .src) (offsetAt (now (self .entry .src)) (self .entry .at)) r ⌝ }
+        ensures { λ r. ⌜ (now r ≡ valueAt (now (self .entry .src)) (self .entry .at))
+            × PartOf (self .entry .src) (offsetAt (now (self .entry .src)) (self .entry .at)) r ⌝ }
     {
         value_at(self.src, self.at)
     }
