@@ -68,10 +68,10 @@ atStart = record { at = 0; used = length heading; judged = 0; published = 0; «i
 abbrev pub atFront : Progress → Progress
 atFront p = record { at = 0; used = p .used; judged = p .judged; published = p .published; «is_open» = p .«is_open» }
 
--- where the program writes, nothing waits any more, and whether more can be written is what that write told; else all stays
+-- where the program writes, nothing waits any more, and whether more can be written is what that write answered; else all stays
 abbrev pub written : Bool → Bool → Progress → Progress
-written writes told p =
-    record { at = p .at; used = choose writes 0 (p .used); judged = p .judged; published = p .published; «is_open» = choose writes told (p .«is_open») }
+written writes answer p =
+    record { at = p .at; used = choose writes 0 (p .used); judged = p .judged; published = p .published; «is_open» = choose writes answer (p .«is_open») }
 
 -- ---- bounds
 

@@ -70,15 +70,15 @@ module _ (largest : ℕ) (l : Bytes) (h : RightHeader largest l) where
 
 -- ---- what the check of a ledger tells
 
-abbrev pub HeaderTold : ℕ → Bytes → HeaderCheck → Type 0
-HeaderTold largest l Fault = headerRight largest l ≡ false
-HeaderTold largest l (Value h) = (headerRight largest l ≡ true) × (h ≡ headerOf l)
+abbrev pub HeaderChecked : ℕ → Bytes → HeaderCheck → Type 0
+HeaderChecked largest l Fault = headerRight largest l ≡ false
+HeaderChecked largest l (Value h) = (headerRight largest l ≡ true) × (h ≡ headerOf l)
 
-pub header-checked : (largest : ℕ) (l : Bytes) (r : HeaderCheck) → checkedHeader largest l ≡ r → HeaderTold largest l r
+pub header-checked : (largest : ℕ) (l : Bytes) (r : HeaderCheck) → checkedHeader largest l ≡ r → HeaderChecked largest l r
 unfolding checkedHeader
-header-checked largest l r e = subst (HeaderTold largest l) e (by (headerRight largest l) refl)
+header-checked largest l r e = subst (HeaderChecked largest l) e (by (headerRight largest l) refl)
   where
-    by : (b : Bool) → headerRight largest l ≡ b → HeaderTold largest l (choose b (Value (headerOf l)) Fault)
+    by : (b : Bool) → headerRight largest l ≡ b → HeaderChecked largest l (choose b (Value (headerOf l)) Fault)
     by true g = (g, refl)
     by false g = g
 

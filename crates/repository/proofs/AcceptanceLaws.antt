@@ -75,7 +75,7 @@ module _ (limits : Limits) (lent : Lent) (m : Bytes) where
 
   -- ---- an accepted message
 
-  -- where the decision is to go on, the message is accepted, and the acceptance is the one of its action
+  -- where the decision accepts, the message is accepted, and the acceptance is that of its action
   abbrev DecidedWith : Decision → Type 0
   DecidedWith (Refused v e) = Unit {0}
   DecidedWith (Value s) = (c : Accepted limits lent m) × (s ≡ acceptanceIn (c .action) (lent .ledger) m)

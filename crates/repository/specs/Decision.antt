@@ -27,7 +27,7 @@ use Rattle.repository.specs.Answers.{answerWith, refusalAnswer}
 
 -- ---- the decision
 
--- an acceptance: what an accepted message is written by, from what is known of the swap, the header's numbers and the cap that applies
+-- an acceptance: what the writes of an accepted message use, from what is known of the swap, the header's numbers and the cap that applies
 abbrev pub acceptanceFor : Action → Header → Swap → ℕ → Acceptance
 acceptanceFor a h s cap =
     record { action = a; place = s .place; status = nextStatus a (s .status); previous = s .identifier; rows = h .rows; next = h .next; cap = cap }

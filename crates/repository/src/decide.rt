@@ -45,7 +45,7 @@ use octets::same;
 use rules::Judged;
 use rules::judge;
 
-// What an accepted message is written by: its action, the place of the swap's row, the swap's next status and last identifier, the header's
+// What the writes of an accepted message use: its action, the place of the swap's row, the swap's next status and last identifier, the header's
 // numbers, and the cap that applies.
 pub struct Acceptance {
     pub action: Action,

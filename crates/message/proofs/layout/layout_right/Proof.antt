@@ -44,11 +44,11 @@ returns-4 c =
     (rw (le-leb _ _ (c .before .before .before .before .if1 .left), le-leb _ _ (c .before .before .before .if2 .left), le-leb _ _ r, eq-eqb _ _ z), layout-laws)
 
 -- where there are entries, the layout is what they tell
-told : (c : tie.Else4 Inv-loop μ-loop)
+ensured : (c : tie.Else4 Inv-loop μ-loop)
     → let a = c .before .before .before .before .before .before .before .args in
     layoutRight (a .longest) (a .most) (now (a .known)) (now (a .m)) ≡ all (entryRight (now (a .known)) (now (a .m))) (count (now (a .m)))
 unfolding layoutRight
-told c =
+ensured c =
     let a = c .before .before .before .before .before .before .before .args in
     let r : count (now (a .m)) ≤ a .most = omega arith in
     let z : count (now (a .m)) ≡ 0 → ⊥ = omega arith in
@@ -59,10 +59,10 @@ returns-5 c =
     let a = c .before .before .before .before .before .before .before .before .args in
     let z : 0 < count (now (a .m)) = omega arith in
     let cut : length (now (a .m)) ≤ headerSize (now (a .m)) = omega arith in
-    (sym (told (c .before) ∙ rw sub-zero at (all-stop (entryRight (now (a .known)) (now (a .m))) 0 (count (now (a .m))) z (header-cut (now (a .known)) (now (a .m)) cut))), layout-laws)
+    (sym (ensured (c .before) ∙ rw sub-zero at (all-stop (entryRight (now (a .known)) (now (a .m))) 0 (count (now (a .m))) z (header-cut (now (a .known)) (now (a .m)) cut))), layout-laws)
 
 loop-holds : tie.Need-loop-holds Inv-loop μ-loop
-loop-holds c = (omega arith, omega arith, omega arith, omega arith, rw sub-zero (sym (told (c .before))))
+loop-holds c = (omega arith, omega arith, omega arith, omega arith, rw sub-zero (sym (ensured (c .before))))
 
 returns-6 : tie.Need-returns-6 Inv-loop μ-loop
 returns-6 c =
