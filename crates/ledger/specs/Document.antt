@@ -45,7 +45,8 @@ pub record Document-sizes : Type 0 where
   pub headerNames :
       (rowsAt, u32) ∷ (firstRowAt, u32) ∷ (nextAt, u64) ∷ (capAt 0, u64)
       ∷ (capAt 1, u64) ∷ (capAt 2, u64) ∷ (capAt 3, u64) ∷ (capAt 4, u64) ∷ (rowSizeAt, u32) ∷ (capacityAt, u32) ∷ [] ≡ headerPlaces
-  pub rowNames : (statusAt, u8) ∷ (lengthAt, u8) ∷ (utiAt, utiSize) ∷ (identifierAt, u64) ∷ (termsAt, termsSize) ∷ (tailAt, tailSize) ∷ [] ≡ rowPlaces
+  pub rowNames :
+      (statusAt, u8) ∷ (lengthAt, u8) ∷ (utiAt, utiSize) ∷ (identifierAt, u64) ∷ (termsAt, termsSize) ∷ (tailAt, tailSize) ∷ [] ≡ rowPlaces
   -- the sizes
   pub lineSized : lineSize ≡ 146
   pub headerSized : headerSize ≡ 64

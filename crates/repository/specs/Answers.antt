@@ -59,4 +59,5 @@ answerIn n = answerWith (n % byte) (n / elementUnit % byte) (n / statusUnit % by
 -- each field of an answer is recovered from its number, and no other number has these fields
 abbrev pub Number-carries : Type 0
 Number-carries =
-    ((v e s i : ℕ) → v < byte → e < byte → s < byte → answerIn (packed (answerWith v e s i)) ≡ answerWith v e s i) × ((n : ℕ) → packed (answerIn n) ≡ n)
+    ((v e s i : ℕ) → v < byte → e < byte → s < byte → answerIn (packed (answerWith v e s i)) ≡ answerWith v e s i)
+    × ((n : ℕ) → packed (answerIn n) ≡ n)

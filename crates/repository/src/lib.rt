@@ -36,7 +36,8 @@ pub extern "C" fn sdr_open(
     cap_co: u64,
 ) -> u32
     ensures { λ r. ⌜ r ≡ opened documentLimits (capsOf «cap_cr» «cap_ir» «cap_fx» «cap_eq» «cap_co») (now (ledger .entry)) .verdict ⌝ }
-    ensures { λ _. ⌜ now (ledger .exit) ≡ opened documentLimits (capsOf «cap_cr» «cap_ir» «cap_fx» «cap_eq» «cap_co») (now (ledger .entry)) .ledger ⌝ }
+    ensures { λ _. ⌜ now (ledger .exit)
+        ≡ opened documentLimits (capsOf «cap_cr» «cap_ir» «cap_fx» «cap_eq» «cap_co») (now (ledger .entry)) .ledger ⌝ }
     ensures { λ _. ⌜ Opening-demands ⌝ }
 {
     let caps = Caps {
@@ -52,7 +53,8 @@ pub extern "C" fn sdr_open(
 // Submits a message; answers verdict, element and the identifier of its line in one number.
 #[no_mangle]
 pub extern "C" fn sdr_submit(ledger: &mut [u8], tape: &mut [u8], message: &[u8]) -> u64
-    ensures { λ r. ⌜ answerIn r ≡ submissionAnswer (submitted documentLimits (lentOf (now (ledger .entry)) (now (tape .entry))) (now (message .entry))) ⌝ }
+    ensures { λ r. ⌜ answerIn r
+        ≡ submissionAnswer (submitted documentLimits (lentOf (now (ledger .entry)) (now (tape .entry))) (now (message .entry))) ⌝ }
     ensures { λ _. ⌜ lentOf (now (ledger .exit)) (now (tape .exit))
         ≡ submitted documentLimits (lentOf (now (ledger .entry)) (now (tape .entry))) (now (message .entry)) .lent ⌝ }
     ensures { λ _. ⌜ Submission-demands ⌝ }

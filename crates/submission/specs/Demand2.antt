@@ -138,7 +138,8 @@ pub record HeaderWritten (limits : Limits) (caps : Caps) (l l′ : Bytes) : Type
   pub long : length l′ ≡ length l
 
 abbrev pub Opening-writes : Type 0
-Opening-writes = (limits : Limits) (caps : Caps) (l : Bytes) → opened limits caps l .verdict ≡ 0 → HeaderWritten limits caps l (opened limits caps l .ledger)
+Opening-writes =
+    (limits : Limits) (caps : Caps) (l : Bytes) → opened limits caps l .verdict ≡ 0 → HeaderWritten limits caps l (opened limits caps l .ledger)
 
 -- what opening wrote passes 3
 abbrev pub Opening-passes-under : Limits → Type 0
@@ -155,8 +156,10 @@ Opening-passes = (limits : Limits) → limits .largest < 256 ^ u32 → Opening-p
 pub record QuestionExactly (limits : Limits) (l u : Bytes) (v : ℕ) : Type 0 where
   pub ledger : (v ≡ ledgerWrong) ↔ (headerRight (limits .largest) l ≡ false)
   pub form : (v ≡ formBroken) ↔ ((headerRight (limits .largest) l ≡ true) × (hasForm uti u ≡ false))
-  pub row : (v ≡ rowWrong) ↔ ((headerRight (limits .largest) l ≡ true) × (hasForm uti u ≡ true) × (hasWrongRow (nextIdentifier l) (swapIn l u) ≡ true))
-  pub accepted : (v ≡ 0) ↔ ((headerRight (limits .largest) l ≡ true) × (hasForm uti u ≡ true) × (hasWrongRow (nextIdentifier l) (swapIn l u) ≡ false))
+  pub row :
+      (v ≡ rowWrong) ↔ ((headerRight (limits .largest) l ≡ true) × (hasForm uti u ≡ true) × (hasWrongRow (nextIdentifier l) (swapIn l u) ≡ true))
+  pub accepted :
+      (v ≡ 0) ↔ ((headerRight (limits .largest) l ≡ true) × (hasForm uti u ≡ true) × (hasWrongRow (nextIdentifier l) (swapIn l u) ≡ false))
 
 abbrev pub Question-exactly : Type 0
 Question-exactly =

@@ -49,7 +49,9 @@ maskedTermsAt caps js i =
 
 -- two accepted messages agree in action, event (or its absence) and event time
 abbrev pub SameShown : Bytes → Bytes → Type 0
-SameShown m₁ m₂ = (value actionType m₁ ≡ value actionType m₂) × (value eventType m₁ ≡ value eventType m₂) × (value eventTimestamp m₁ ≡ value eventTimestamp m₂)
+SameShown m₁ m₂ =
+    (value actionType m₁ ≡ value actionType m₂) × (value eventType m₁ ≡ value eventType m₂)
+    × (value eventTimestamp m₁ ≡ value eventTimestamp m₂)
 
 pub record Alike (caps : Caps) (js ks : List Judgement) : Type 0 where
   -- as many calls, and at each place the same verdict number

@@ -41,4 +41,5 @@ maskedAmount cap m = (shown cap (amount (value notionalAmount m)), over cap (amo
 -- whatever the parties, package names, settlement dates and true amounts
 abbrev pub Terms-public : Type 0
 Terms-public =
-    (cap₁ cap₂ : ℕ) (m₁ m₂ : Bytes) → Agree m₁ m₂ → maskedAmount cap₁ m₁ ≡ maskedAmount cap₂ m₂ → termsOf cap₁ m₁ ≡ termsOf cap₂ m₂
+    (cap₁ cap₂ : ℕ) (m₁ m₂ : Bytes) → Agree m₁ m₂ → maskedAmount cap₁ m₁ ≡ maskedAmount cap₂ m₂
+    → termsOf cap₁ m₁ ≡ termsOf cap₂ m₂
