@@ -11,6 +11,7 @@ document-sizes =
       row = λ status u identifier terms. refl;
       headerNames = refl;
       rowNames = refl;
+      classes = λ caps. refl;
       lineSized = refl;
       headerSized = refl;
       rowSized = refl;

@@ -1,15 +1,16 @@
 -- Document 01's numbers, computed: offset and length of every field, in the paper's order, and the sizes.
 use Prim.Native.Nat.{ℕ}
 use mathlib.Core.Path.{_≡_}
-use mathlib.Core.List.{List, [], _∷_}
+use mathlib.Core.List.{List, [], _∷_, map}
 use Rattle.octets.specs.Bytes.{Bytes}
 use Rattle.octets.specs.Fields.{places}
+use Rattle.values.specs.Code.{assetClasses}
 use Rattle.actions.specs.declared.Action.{Action}
 use Rattle.terms.specs.Terms.{termFields, termsSize}
 use Rattle.ledger.specs.declared.header.Caps.{Caps}
 use Rattle.ledger.specs.Line.{lineFields}
 use Rattle.ledger.specs.Layout.{u8, u32, u64, rowsAt, firstRowAt, nextAt, capAt, rowSizeAt, capacityAt, headerSize, statusAt, lengthAt, utiAt, utiSize, identifierAt, termsAt, tailAt, tailSize, rowSize, shortestLedger, lineSize}
-use Rattle.ledger.specs.Header.{headerFields}
+use Rattle.ledger.specs.Header.{classCaps, headerFields}
 use Rattle.ledger.specs.Rows.{rowFields}
 
 -- ---- offset, length
@@ -47,6 +48,8 @@ pub record Document-sizes : Type 0 where
       ∷ (capAt 1, u64) ∷ (capAt 2, u64) ∷ (capAt 3, u64) ∷ (capAt 4, u64) ∷ (rowSizeAt, u32) ∷ (capacityAt, u32) ∷ [] ≡ headerPlaces
   pub rowNames :
       (statusAt, u8) ∷ (lengthAt, u8) ∷ (utiAt, utiSize) ∷ (identifierAt, u64) ∷ (termsAt, termsSize) ∷ (tailAt, tailSize) ∷ [] ≡ rowPlaces
+  -- the header has a cap for each asset class that code 25 admits, in this order
+  pub classes : (caps : Caps) → map (λ c. c .0) (classCaps caps) ≡ assetClasses
   -- the sizes
   pub lineSized : lineSize ≡ 146
   pub headerSized : headerSize ≡ 64
