@@ -23,6 +23,9 @@
  *     It may be stored and brought back elsewhere. A length that means another capacity is refused (SDR_LEDGER_WRONG);
  *     other damage may go unnoticed.
  *
+ * docs/SPECIFICATION.md says in full what is judged, stored and shown; this header names its numbers. Sections below are
+ * sections of that document.
+ *
  * What is yours to do: signing, transport, the dissemination delay and the clock, storing ledger and tape, and copying each
  * line out of the tape buffer before the next submission, which writes to the same place.
  *
@@ -38,7 +41,7 @@
 extern "C" {
 #endif
 
-/* ---- Sizes, in bytes, and limits ---- */
+/* ---- Sizes, in bytes, and limits (sections 2, 6, 7 and 8) ---- */
 
 #define SDR_HEADER_SIZE 64 /* the ledger's header */
 #define SDR_ROW_SIZE 160   /* one swap in the ledger */
@@ -65,7 +68,7 @@ extern "C" {
 /* Identifiers stay below this. A ledger whose next identifier has come to it writes no more lines (SDR_IDENTIFIERS_SPENT). */
 #define SDR_IDENTIFIER_LIMIT UINT64_C(1000000000000)
 
-/* ---- The message ----
+/* ---- The message (sections 2 to 4) ----
  *
  * Numbers are little-endian, values are ASCII text without padding or terminating zero.
  *
@@ -112,7 +115,7 @@ enum sdr_element_code {
     SDR_ASSET_CLASS = 25              /* full; CR, IR, FX, EQ or CO; says which cap applies */
 };
 
-/* ---- Verdicts ----
+/* ---- Verdicts (section 9) ----
  *
  * An operation judges its rules one after the other and answers the first one that is broken. The order:
  *
@@ -157,7 +160,7 @@ enum sdr_verdict_code {
     SDR_IDENTIFIERS_SPENT = 18    /* a line would be due, and no identifier is left */
 };
 
-/* ---- Statuses ----
+/* ---- Statuses (section 5) ----
  *
  * NEWT makes an unknown swap live. MODI and CORR leave the status as it is, TERM closes, EROR makes errored, REVI makes live
  * again, PRTO makes ported.
@@ -171,7 +174,7 @@ enum sdr_status_code {
     SDR_PORTED = 4   /* admits nothing */
 };
 
-/* ---- Operations ----
+/* ---- Operations (section 10) ----
  *
  * The order in which an operation judges its rules stands with the verdicts.
  */
@@ -180,8 +183,8 @@ enum sdr_status_code {
  * Opens a ledger over a buffer.
  *
  * Each asset class (CR, IR, FX, EQ, CO) has a cap, in units of the notional currency. The tape shows an amount above it as
- * the cap and a plus sign. A cap lies between SDR_SMALLEST_CAP and SDR_LARGEST_CAP and is an amount that rounding leaves as
- * it is: 250,000,000 is one, 251,000,000 is not.
+ * the cap and a plus sign (section 6). A cap lies between SDR_SMALLEST_CAP and SDR_LARGEST_CAP and is an amount that
+ * rounding leaves as it is: 250,000,000 is one, 251,000,000 is not.
  *
  * Answers a verdict; what the buffer holds is not looked at. If it accepts, it writes the first SDR_HEADER_SIZE bytes of the
  * buffer and no others: the ledger then has no swaps, and 1 as its next identifier. So opening a ledger that is in use

@@ -1,4 +1,4 @@
--- The pairs that document 01 names, computed from the matrix. Assumes nothing.
+-- The named pairs, computed from the matrix. Assumes nothing.
 use mathlib.Core.Path.{refl}
 use Rattle.octets.specs.Text.{text}
 use Rattle.octets.specs.Same.{sameBytes, place, oneOf}

@@ -1,4 +1,4 @@
--- Document 01, 'Elements', and document 000, Appendix F: which events go with which action (verdict 10).
+-- Specification, clause 5.3: which events go with which action (verdict 10).
 use Prim.Native.Nat.{ℕ}
 use Prim.Native.Char.{code}
 use mathlib.Core.Bool.{Bool, true, false}
@@ -24,7 +24,7 @@ tick a column = eqb (getD (text (actionRow a .events)) column 0) (code "Y")
 unfoldable pub pairAllowed : Action → Bytes → Bool
 pairAllowed a event = choose (eqb (length event) 0) (tick a noEvent) (both (oneOf events event) (tick a (place events event)))
 
--- the pairs that document 01 names: four that the matrix allows, one that it does not
+-- five cells of the matrix by name: four pairs that it allows, one that it does not
 abbrev pub Named-pairs : Type 0
 Named-pairs =
     (pairAllowed Newt (text "TRAD") ≡ true)

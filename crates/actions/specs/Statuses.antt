@@ -1,4 +1,4 @@
--- Document 01, 'Statuses' and 'The ledger': the numbers of the statuses.
+-- Specification, clause 5.1: the numbers of the statuses.
 use Prim.Native.Nat.{ℕ}
 use mathlib.Core.List.{List, [], _∷_}
 

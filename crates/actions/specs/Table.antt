@@ -1,4 +1,4 @@
--- Document 01, 'Elements', 'Statuses' and 'The tape line', and document 000, Appendix F: the table of actions, a row for each.
+-- Specification, section 5: the table of actions, a row for each.
 use Prim.Native.Nat.{ℕ}
 use Prim.Native.String.{String}
 use mathlib.Core.Bool.{Bool, true, false}

@@ -1,4 +1,4 @@
-// The seven actions: document 01, 'Elements', how they are read and which events go with each, and 'Statuses', the steps of a swap's status.
+// The seven actions (specification, section 5): how they are read, which events go with each, and the steps of a swap's status.
 mod matrix;
 mod statuses;
 mod table;

@@ -1,4 +1,4 @@
--- Document 01, 'Elements': dates, YYYY-MM-DD, and times, YYYY-MM-DDThh:mm:ssZ.
+-- Specification, section 4: dates, YYYY-MM-DD, and times, YYYY-MM-DDThh:mm:ssZ.
 use Prim.Native.Nat.{ℕ, _+_, _-_, _*_, _%_}
 use Prim.Native.Char.{code}
 use mathlib.Core.Bool.{Bool, true, false, not}

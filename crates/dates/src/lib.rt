@@ -1,4 +1,4 @@
-// Dates and times: document 01, 'Elements', the forms of codes 4 to 9, and their order.
+// Dates and times (specification, clauses 4.4 and 4.5): the forms of codes 4 to 9, and their order.
 ghost use mathlib.Core.Path.{_≡_};
 ghost use Prim.Native.Nat.{_<_};
 ghost use Rattle.dates.specs.Dates.{fitsByte, fitsPattern, digitAt, twoDigits, leap, daysIn, gregorian, namesDate, isDate, isTime, before, Date-order, Time-order};

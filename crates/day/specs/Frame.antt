@@ -1,4 +1,4 @@
--- Document 01, 'The day run': messages each led by a u16 length.
+-- Specification, section 11: messages each led by a u16 length.
 use Prim.Native.Nat.{ℕ, _+_, _<_, _≤_}
 use mathlib.Core.Bool.{Bool}
 use lib.ListN.{length}

@@ -1,4 +1,4 @@
--- Document 01, 'The day run': the lines of the report.
+-- Specification, section 11: the lines of the report.
 use Prim.Native.Nat.{ℕ, zero, suc, _+_, _-_, _*_, _/_, _^_, _<_, _≤_}
 use Prim.Native.Char.{code}
 use mathlib.Core.Bool.{Bool}

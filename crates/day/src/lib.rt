@@ -1,4 +1,4 @@
-// A day of messages: where one ends and the next begins in the input, and the lines of the report. Document 01, 'The day run'.
+// A day of messages: where one ends and the next begins in the input, and the lines of the report. Specification, section 11.
 mod frame;
 mod report;
 

@@ -1,4 +1,4 @@
--- Examples of a day, document 01's among them, computed. Assumes nothing.
+-- Examples of a day, that of clause 11.9 among them, computed. Assumes nothing.
 use mathlib.Core.Path.{refl}
 use Rattle.octets.specs.Field.{field}
 use Rattle.octets.specs.Fields.{bytesOf}

@@ -1,4 +1,4 @@
--- Document 01, 'The day run': the report does not depend on the pieces in which the input comes; examples of it.
+-- Specification, section 11: the report does not depend on the pieces in which the input comes; examples of it.
 use Prim.Native.Nat.{ℕ, suc, _+_}
 use mathlib.Core.Bool.{true}
 use mathlib.Core.Path.{_≡_}
@@ -31,7 +31,7 @@ Nothing-lost =
 abbrev pub Example : Bytes → String → Type 0
 Example xs lines = dayReport xs ≡ text "message verdict element record\n" ++ text lines
 
--- for the bytes 02 00 00 00 it is document 01's; no input; a lone byte; a length without its message; a length of 0
+-- for the bytes 02 00 00 00 it is that of clause 11.9; no input; a lone byte; a length without its message; a length of 0
 abbrev pub Examples : Type 0
 Examples =
     Example (2 ∷ 0 ∷ 0 ∷ 0 ∷ []) "1 6 2 0\nend 1 0\n"

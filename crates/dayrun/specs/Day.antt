@@ -1,4 +1,4 @@
--- Document 01, 'The day run': the whole output for a day's input.
+-- Specification, section 11: the whole output for a day's input.
 use Prim.Native.Nat.{ℕ, zero, suc, _+_}
 use mathlib.Core.List.{[], _++_}
 use lib.ListN.{length, drop, replicate}

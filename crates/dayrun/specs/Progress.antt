@@ -1,4 +1,4 @@
--- The program's own state: how far the day has come, and what waits to be written. No sentence of document 01.
+-- The program's own state: how far the day has come, and what waits to be written. No clause of the specification.
 use Prim.Native.Nat.{ℕ, zero, suc, _+_, _-_, _<_, _≤_}
 use mathlib.Core.Bool.{Bool, true, false}
 use mathlib.Core.Path.{_≡_}

@@ -1,4 +1,4 @@
-// Judges a day of messages from standard input and writes its report to standard output: document 01, 'The day run'.
+// Judges a day of messages from standard input and writes its report to standard output: specification, section 11.
 mod input;
 mod judging;
 mod output;

@@ -1,4 +1,4 @@
--- Document 01, 'Elements': the codes of the elements that a rule or the tape line speaks of by name.
+-- Specification, section 3: the codes of the elements that a rule or the tape line speaks of by name.
 use Prim.Native.Nat.{ℕ}
 
 abbrev pub uti : ℕ

@@ -1,4 +1,4 @@
--- Document 01, 'Elements': elements that are needed under an "if" (verdict 11), and what is left out.
+-- Specification, section 3: elements that are needed under an "if" (verdict 11), and what is left out.
 use Prim.Native.Nat.{ℕ}
 use mathlib.Core.Bool.{Bool, true, false}
 use mathlib.Core.List.{[]}

@@ -1,4 +1,4 @@
--- Document 01, 'Elements': the form of each element (verdict 9).
+-- Specification, sections 3 and 4: the form of each element (verdict 9).
 use Prim.Native.Nat.{ℕ}
 use mathlib.Core.Bool.{Bool, true, false}
 use Rattle.octets.specs.Bytes.{Bytes}

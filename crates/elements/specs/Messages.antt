@@ -1,4 +1,4 @@
--- Document 01, 'The message' and 'Elements': which codes are known, and which elements a message of an action takes and needs (verdicts 5, 7 and 8).
+-- Specification, sections 2 and 3: which codes are known, and which elements a message of an action takes and needs (verdicts 5, 7 and 8).
 use Prim.Native.Nat.{ℕ, zero, suc, _≤_}
 use mathlib.Core.Bool.{Bool, true, false}
 use mathlib.Core.Path.{_≡_}

@@ -1,4 +1,4 @@
--- Document 01, 'Elements': the table, a row for each code.
+-- Specification, section 3: the table, a row for each code.
 use Prim.Native.Nat.{ℕ, _-_}
 use mathlib.Core.List.{List, [], _∷_}
 use lib.ListN.{length, getD}

@@ -1,4 +1,4 @@
-// The elements of a message: document 01, 'Elements', the table with a row for each code, and what is read off it: the messages that take and need an
+// The elements of a message: the table of the specification's section 3, with a row for each code, and what is read off it: the messages that take and need an
 // element, its form, and the conditions.
 mod conditions;
 mod forms;

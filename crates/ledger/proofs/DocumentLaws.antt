@@ -1,4 +1,4 @@
--- Document 01's numbers, computed from the definitions. Assumes nothing.
+-- The specification's numbers, computed from the definitions. Assumes nothing.
 use mathlib.Core.Path.{refl}
 use Rattle.ledger.specs.Document.{Document-sizes}
 

@@ -38,7 +38,7 @@ module _ (caps : Caps) (capacity : ℕ) (l : Bytes) (room : headerSize ≤ lengt
   pub opened-length : length (splice l rowsAt (newHeader caps capacity)) ≡ length l
   opened-length = length-splice l (newHeader caps capacity) rowsAt fits
 
-  -- each field stands at document 01's offset, and later bytes stay
+  -- each field stands at the specification's offset, and later bytes stay
   pub opened-placed : Placed rowsAt (headerFields caps capacity) (splice l rowsAt (newHeader caps capacity))
   unfolding newHeader
   opened-placed = front-placed (headerFields caps capacity) headerSize l refl

@@ -29,7 +29,7 @@ module _ (status : ℕ) (u : Bytes) (identifier : ℕ) (terms : Bytes) where
   unfolding newRow
   row-written d size run = all-written (rowFields status u identifier terms) d size run
 
-  -- each field stands at document 01's offset
+  -- each field stands at the specification's offset
   pub row-placed : Placed statusAt (rowFields status u identifier terms) (newRow status u identifier terms)
   unfolding newRow
   row-placed = field-placed (rowFields status u identifier terms)

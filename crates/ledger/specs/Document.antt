@@ -1,4 +1,4 @@
--- Document 01's numbers, computed: offset and length of every field, in the paper's order, and the sizes.
+-- The specification's numbers, computed: offset and length of every field, in its order, and the sizes.
 use Prim.Native.Nat.{ℕ}
 use mathlib.Core.Path.{_≡_}
 use mathlib.Core.List.{List, [], _∷_, map}

@@ -1,4 +1,4 @@
--- Document 01, 'The ledger': the header, and when it is right (verdict 3).
+-- Specification, section 8: the header, and when it is right (verdict 3).
 use Prim.Native.Nat.{ℕ, _-_, _/_, _≤_, min}
 use Prim.Native.String.{String}
 use mathlib.Core.Bool.{Bool, true}

@@ -1,4 +1,4 @@
--- Document 01, 'The ledger' and 'The tape line': sizes and offsets in bytes. Each offset follows from the field before it; Document.antt has the numbers.
+-- Specification, sections 7 and 8: sizes and offsets in bytes. Each offset follows from the field before it; Document.antt has the numbers.
 use Prim.Native.Nat.{ℕ, _+_, _*_}
 use mathlib.Core.List.{[]}
 use Rattle.octets.specs.Fields.{sizeOf}

@@ -1,4 +1,4 @@
--- Document 01, 'The tape line'.
+-- Specification, section 7: the tape line.
 use Prim.Native.Nat.{ℕ}
 use mathlib.Core.List.{List, [], _∷_}
 use Rattle.octets.specs.Bytes.{Bytes}

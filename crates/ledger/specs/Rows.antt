@@ -1,4 +1,4 @@
--- Document 01, 'The ledger': rows, which row is a swap's, and what each action writes of a row and of the header.
+-- Specification, section 8: rows, which row is a swap's, and what each action writes of a row and of the header.
 use Prim.Native.Nat.{ℕ, _+_}
 use mathlib.Core.Bool.{Bool}
 use mathlib.Core.List.{List, [], _∷_}

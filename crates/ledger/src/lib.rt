@@ -1,4 +1,4 @@
-// The ledger of swaps and the tape line: document 01, 'The ledger' and 'The tape line'.
+// The ledger of swaps and the tape line: specification, sections 7 and 8.
 mod header;
 mod layout;
 mod line;

@@ -1,4 +1,4 @@
-// The tape line: document 01, 'The tape line'.
+// The tape line: specification, section 7.
 ghost use mathlib.Core.Path.{_≡_};
 ghost use Prim.Native.Nat.{_+_, _≤_};
 ghost use lib.ListN.{length};

@@ -1,4 +1,4 @@
--- Document 01, 'The message': what holds of every message whose layout is right. `layout_right` cites it.
+-- Specification, section 2: what holds of every message whose layout is right. `layout_right` cites it.
 use Prim.Native.Nat.{ℕ, _<_}
 use mathlib.Core.Bool.{Bool, true}
 use mathlib.Core.List.{List, _++_}

@@ -1,4 +1,4 @@
--- Document 01, 'The message': the header of counts and offsets, and when the layout is right (verdict 5).
+-- Specification, section 2: the header of counts and offsets, and when the layout is right (verdict 5).
 use Prim.Native.Nat.{ℕ, _+_, _-_, _*_}
 use mathlib.Core.Bool.{Bool, false}
 use mathlib.Core.List.{List}

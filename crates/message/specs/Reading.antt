@@ -1,4 +1,4 @@
--- Document 01, 'The message': how far a reader has come that goes along the codes of a message whose layout is right.
+-- Specification, section 2: how far a reader has come that goes along the codes of a message whose layout is right.
 use Prim.Native.Nat.{ℕ, _+_, _<_, _≤_}
 use mathlib.Core.Path.{_≡_}
 use mathlib.Core.Bool.{Bool, true, false}

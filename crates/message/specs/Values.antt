@@ -1,4 +1,4 @@
--- Document 01, 'The message': the value of an element.
+-- Specification, section 2: the value of an element.
 use Prim.Native.Nat.{ℕ, zero, suc, _+_, _-_, _/_, min}
 use mathlib.Core.Bool.{Bool}
 use mathlib.Core.List.{[], _++_}

@@ -1,4 +1,4 @@
-// The layout of a message: document 01, 'The message', its header of counts and offsets.
+// The layout of a message (specification, section 2): its header of counts and offsets.
 ghost use mathlib.Core.Path.{_≡_};
 ghost use mathlib.Core.Bool.{false};
 ghost use Prim.Native.Nat.{_+_, _*_, _<_, _≤_};

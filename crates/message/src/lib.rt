@@ -1,4 +1,4 @@
-// A message: its layout, and the value of an element as that part of the message itself. Document 01, 'The message'.
+// A message: its layout, and the value of an element as that part of the message itself. Specification, section 2.
 mod entries;
 mod layout;
 

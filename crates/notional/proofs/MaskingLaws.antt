@@ -99,7 +99,7 @@ largest-own = refl
 pub shown-largest : (cap a : ℕ) → cap ≤ largestCap → shown cap a ≤ largestCap
 shown-largest cap a h = shown-below cap largestCap a h largest-own
 
--- ---- document 01's examples
+-- ---- the examples of clause 6.7
 
 pub examples-shown : Examples-shown
 unfolding allShown text firstFrom pointIn wholeOf decimalsOf digit spelled fraction amount bands stepIn step nearest rounded over shown

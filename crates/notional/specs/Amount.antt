@@ -1,4 +1,4 @@
--- Document 01, 'The masked notional': the exact amount that a value spells.
+-- Specification, section 6: the exact amount that a value spells.
 use Prim.Native.Nat.{ℕ, _+_, _-_, _*_, _^_}
 use Prim.Native.Char.{code}
 use mathlib.Core.List.{[], _∷_, _++_}

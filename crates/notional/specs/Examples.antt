@@ -1,4 +1,4 @@
--- Document 01, 'The masked notional': its 14 examples, one statement about one table.
+-- Specification, clause 6.7: the 14 examples, one statement about one table.
 use Prim.Native.Nat.{ℕ}
 use Prim.Native.String.{String}
 use mathlib.Core.Bool.{Bool, true}
@@ -34,6 +34,6 @@ unfoldable pub allShown : List (String × ℕ) → Bool
 allShown [] = true
 allShown (e ∷ es) = both (eqb (shown largestCap (amount (text (e .0)))) (e .1)) (allShown es)
 
--- what document 01 marks for proof
+-- each amount of the table shows what stands beside it
 abbrev pub Examples-shown : Type 0
 Examples-shown = allShown examples ≡ true

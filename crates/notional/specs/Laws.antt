@@ -1,4 +1,4 @@
--- Document 01, 'The masked notional': what holds of every amount. `mask` cites it.
+-- Specification, section 6: what holds of every amount. `mask` cites it.
 use Prim.Native.Nat.{ℕ, _*_, _≤_}
 use mathlib.Core.Bool.{true}
 use mathlib.Core.Path.{_≡_}

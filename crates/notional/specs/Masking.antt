@@ -1,4 +1,4 @@
--- Document 01, 'The masked notional': what is shown of an amount under a cap, and which numbers are caps.
+-- Specification, section 6: what is shown of an amount under a cap, and which numbers are caps.
 use Prim.Native.Nat.{ℕ, _*_}
 use mathlib.Core.Bool.{Bool}
 use lib.Dec.{ltb, eqb}

@@ -1,4 +1,4 @@
--- Document 01, 'The masked notional': the bands and the rounded amount. Amounts are in units of 10^-5, what is shown is in units.
+-- Specification, section 6: the bands and the rounded amount. Amounts are in units of 10^-5, what is shown is in units.
 use Prim.Native.Nat.{ℕ, _+_, _*_, _/_, _%_, _<_, _≤_, max}
 use mathlib.Core.List.{List, [], _∷_}
 use mathlib.Core.Path.{_≡_}

@@ -1,4 +1,4 @@
-// The masked notional: document 01, 'The masked notional', the exact amount of a value, rounded by its band and capped.
+// The masked notional (specification, section 6): the exact amount of a value, rounded by its band and capped.
 ghost use mathlib.Core.Path.{_≡_};
 ghost use Prim.Native.Nat.{ℕ, _+_, _*_, _<_, _≤_, min};
 ghost use Rattle.numbers.specs.Numbers.{wholeOf};

@@ -1,4 +1,4 @@
--- Document 01, 'Elements': Num(a,b), and the forms of codes 17 and 20.
+-- Specification, clauses 4.7 to 4.9: numbers, and the forms of codes 17 and 20.
 use Prim.Native.Nat.{ℕ, _+_}
 use Prim.Native.Char.{code}
 use mathlib.Core.Bool.{Bool, true}

@@ -1,4 +1,4 @@
--- Document 01, 'The tape line': what holds of every price. `write_price` cites it.
+-- Specification, clause 7.4: what holds of every price. `write_price` cites it.
 use Prim.Native.Nat.{_≤_}
 use mathlib.Core.Bool.{true}
 use mathlib.Core.Path.{_≡_}

@@ -1,4 +1,4 @@
--- Document 01, 'Verdict numbers': what the operations are given and answer, and the one number that carries an answer to a C host.
+-- Specification, section 10: what the operations are given and answer, and the one number that carries an answer to a C host.
 use Prim.Native.Nat.{ℕ, _+_, _*_, _/_, _%_, _^_, _<_}
 use mathlib.Core.Path.{_≡_}
 use Rattle.ledger.specs.declared.header.Caps.{Caps}

@@ -1,4 +1,4 @@
--- What a submission decides by reading, as the code's enums have it: document 01's number and values for each case.
+-- What a submission decides by reading, as the code's enums have it: the specification's number and values for each case.
 use Prim.Native.Nat.{ℕ, _+_, _^_, _<_, _≤_}
 use mathlib.Core.Path.{_≡_}
 use lib.ListN.{length}

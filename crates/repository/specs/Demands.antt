@@ -7,7 +7,7 @@ use Rattle.submission.specs.Published.{Tape-published-under, Tape-published}
 use Rattle.submission.specs.Counting.{Identifier-with-line, Identifier-counts-under, Identifier-counts, Quiet-call}
 use Rattle.repository.specs.Answers.{Number-carries}
 
--- opening: demands 1 and 2, and that a submission finds its header right, also at document 01's limits
+-- opening: demands 1 and 2, and that a submission finds its header right, also at the specification's limits
 abbrev pub Opening-demands : Type 0
 Opening-demands = Opening-answers × Opening-exactly × Opening-writes × Opening-passes × Opening-passes-under documentLimits
 
@@ -26,7 +26,7 @@ pub record Submission-demands : Type 0 where
   pub number : Number-carries
   -- whatever the parties, package names, settlement dates and true amounts
   pub terms : Masked-terms-public
-  -- those that ask something of the limits, at document 01's
+  -- those that ask something of the limits, at the specification's
   pub writes-here : Writes-under documentLimits
   pub tapes-here : Same-tapes-under documentLimits
   pub published-here : Tape-published-under documentLimits

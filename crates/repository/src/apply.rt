@@ -1,4 +1,4 @@
-// What an accepted message writes: document 01, 'The ledger' and 'The tape line'. It cannot fail.
+// What an accepted message writes: specification, sections 7 and 8. It cannot fail.
 ghost use Prim.Native.Nat.{_+_, _≤_};
 ghost use mathlib.Core.Path.{_≡_};
 ghost use lib.ListN.{length};

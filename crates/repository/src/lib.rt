@@ -1,4 +1,4 @@
-// The base's three operations: document 01, 'Verdict numbers': open a ledger, submit a message, ask the status of a swap. A C host reaches them through include/sdr.h.
+// The three operations (specification, section 10): open a ledger, submit a message, ask the status of a swap. A C host reaches them through include/sdr.h.
 mod answer;
 mod apply;
 mod decide;
@@ -20,7 +20,7 @@ use answer::pack;
 use ledger::Caps;
 use operations::status;
 
-// Document 01's limits: the longest message in bytes, and the largest capacity in rows.
+// The specification's limits: the longest message in bytes, and the largest capacity in rows.
 pub const LONGEST_MESSAGE: usize = 2_048;
 
 pub const LARGEST_CAPACITY: u32 = 100_000;

@@ -1,4 +1,4 @@
--- Document 01, 'Verdict numbers': what a rule finds, the first rule broken, a rule by its number, and the lowest element at fault.
+-- Specification, section 9: what a rule finds, the first rule broken, a rule by its number, and the lowest element at fault.
 use Prim.Native.Nat.{ℕ, _<_, _≤_}
 use mathlib.Core.Bool.{Bool, true, false}
 use mathlib.Core.Path.{_≡_}

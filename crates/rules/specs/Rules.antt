@@ -1,4 +1,4 @@
--- Document 01, 'Verdict numbers': rules 5 to 13, which judge a message alone.
+-- Specification, section 9: rules 5 to 13, which judge a message alone.
 use Prim.Native.Nat.{ℕ, _+_}
 use mathlib.Core.Bool.{Bool, not}
 use mathlib.Core.Path.{_≡_}
@@ -134,7 +134,7 @@ abbrev pub judgedBy : ℕ → Checked → Judged
 judgedBy n (checked.Fault code) = answer.Refused n code
 judgedBy n (checked.Value a) = answer.Value a
 
--- document 01's number and element of an answer
+-- the specification's number and element of an answer
 abbrev pub verdictOf : Judged → ℕ × ℕ
 verdictOf (answer.Refused v e) = (v, e)
 verdictOf (answer.Value a) = (0, 0)

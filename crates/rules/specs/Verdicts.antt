@@ -1,4 +1,4 @@
--- Document 01, 'Verdict numbers': those of a message alone, in checking order.
+-- Specification, section 9: those of a message alone, in checking order.
 use Prim.Native.Nat.{ℕ}
 
 -- The message's layout is wrong.

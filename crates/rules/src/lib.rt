@@ -1,4 +1,4 @@
-// Verdicts 5 to 13: document 01, 'Verdict numbers', what is judged of a message alone.
+// Verdicts 5 to 13 (specification, section 9): what is judged of a message alone.
 mod checks;
 mod verdicts;
 

@@ -1,4 +1,4 @@
--- Demand 3: document 01's premises on messages and caps imply equal tapes. Assumes nothing.
+-- Demand 3 (specification, clause 12.3): the premises on messages and caps imply equal tapes. Assumes nothing.
 use mathlib.Core.Path.{sym, _∙_}
 use mathlib.Core.List.{[]}
 use Rattle.terms.proofs.PublicLaws.{terms-public}

@@ -1,4 +1,4 @@
--- Document 01, 'Verdict numbers' and 'Misreadings we have met': which calls answer an identifier and which one, by the number of lines published since opening; calls that write nothing.
+-- Specification, clauses 8.7 and 10.5: which calls answer an identifier and which one, by the number of lines published since opening; calls that write nothing.
 use Prim.Native.Nat.{suc, _^_, _<_}
 use mathlib.Core.Bool.{true, false}
 use mathlib.Core.Path.{_≡_}

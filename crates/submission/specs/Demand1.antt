@@ -1,4 +1,4 @@
--- Document 01, 'Verdict numbers', demand 1: any bytes in message, ledger or tape buffer get an answer; a refusal has its number, names the element where one is at fault, and changes no
+-- Demand 1 (specification, clause 12.1): any bytes in message, ledger or tape buffer get an answer; a refusal has its number, names the element where one is at fault, and changes no
 -- byte of ledger or tape buffer. That any bytes get an answer lies in the definitions: they are functions of lists of any length.
 use Prim.Native.Nat.{ℕ}
 use mathlib.Core.Bool.{true}

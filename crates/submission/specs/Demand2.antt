@@ -1,4 +1,4 @@
--- Demand 2: each verdict, ledger row and tape line is the one that document 01 gives: accepted if its rules accept, else refused under the first rule broken.
+-- Demand 2 (specification, clause 12.2): each verdict, ledger row and tape line is the specified one; 0 where no rule is broken, else the first rule broken.
 use Prim.Native.Nat.{ℕ, _+_, _-_, _^_, _<_, _≤_}
 use mathlib.Core.Bool.{true, false}
 use mathlib.Core.Path.{_≡_}
@@ -50,7 +50,7 @@ pub record RightRow (next : ℕ) (r : Bytes) : Type 0 where
   pub given : 1 ≤ identifierOf r
   pub before : identifierOf r < next
 
--- what document 01 asks of a message that is accepted, in words: 3 and 4, the message alone (5 to 13), and 14 to 18
+-- what the specification asks of a message that is accepted, in words: 3 and 4, the message alone (5 to 13), and 14 to 18
 pub record RulesAccept (limits : Limits) (lent : Lent) (m : Bytes) : Type 0 where
   pub action : Action
   pub reads : actionIn m ≡ Value action

@@ -1,4 +1,4 @@
--- Document 01, 'The tape line', demand 3: one claim over two whole histories. The premises speak of messages, verdict numbers and caps alone.
+-- Demand 3 (specification, clause 12.3): one claim over two whole histories. The premises speak of messages, verdict numbers and caps alone.
 use Prim.Native.Nat.{ℕ, _^_, _<_}
 use mathlib.Core.Path.{_≡_}
 use mathlib.Core.Logic.{_↔_}

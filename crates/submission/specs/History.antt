@@ -1,4 +1,4 @@
--- Document 01, 'The tape line': histories, which are lists of calls on one ledger, and the tape.
+-- Specification, clauses 7.8 and 12.3: histories, which are lists of calls on one ledger, and the tape.
 use Prim.Native.Nat.{ℕ}
 use mathlib.Core.Bool.{Bool, false}
 use mathlib.Core.List.{List, [], _∷_, _++_}

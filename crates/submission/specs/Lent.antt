@@ -1,4 +1,4 @@
--- Document 01, 'The ledger' and 'The tape line': what a host lends for a submission.
+-- Specification, section 10: what a host lends for a submission.
 use Rattle.octets.specs.Bytes.{Bytes}
 
 -- the buffers beside the ledger

@@ -1,4 +1,4 @@
--- Document 01, 'The ledger' and 'Verdict numbers': opening a ledger.
+-- Specification, clauses 8.5 and 10.4: opening a ledger.
 use Prim.Native.Nat.{ℕ}
 use mathlib.Core.Bool.{not}
 use mathlib.Core.List.{List, [], _∷_}
@@ -18,7 +18,7 @@ pub record Limits : Type 0 where
   pub longest : ℕ
   pub largest : ℕ
 
--- those of document 01
+-- those of the specification
 abbrev pub documentLimits : Limits
 documentLimits = record { longest = 2_048; largest = 100_000 }
 

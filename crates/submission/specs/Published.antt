@@ -1,4 +1,4 @@
--- Document 01, 'The tape line': the tape as a function of the published messages, those that were accepted and wrote a line, and of the caps alone.
+-- Specification, clause 12.3: the tape as a function of the published messages, those that were accepted and wrote a line, and of the caps alone.
 use Prim.Native.Nat.{ℕ, suc, _^_, _<_}
 use mathlib.Core.Path.{_≡_}
 use mathlib.Core.List.{List, [], _∷_, _++_}

@@ -1,4 +1,4 @@
--- Document 01, 'Verdict numbers': the status question.
+-- Specification, clause 10.6: the status question.
 use Prim.Native.Nat.{ℕ}
 use mathlib.Core.Bool.{not}
 use mathlib.Core.List.{List, [], _∷_}

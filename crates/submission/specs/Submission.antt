@@ -1,4 +1,4 @@
--- Document 01, 'Verdict numbers', 'The ledger' and 'The tape line': submitting one message.
+-- Specification, sections 7 to 9 and clause 10.5: submitting one message.
 use Prim.Native.Nat.{ℕ, _-_}
 use mathlib.Core.Bool.{Bool, not}
 use mathlib.Core.List.{List, [], _∷_, _++_}

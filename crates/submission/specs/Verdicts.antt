@@ -1,4 +1,4 @@
--- Document 01, 'Verdict numbers': those of opening, and those of a submission that the rules of a message alone (crate rules) have not.
+-- Specification, section 9: those of opening, and those of a submission that the rules of a message alone (crate rules) have not.
 use Prim.Native.Nat.{ℕ}
 use mathlib.Core.List.{List, [], _∷_}
 

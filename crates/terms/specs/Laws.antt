@@ -1,4 +1,4 @@
--- Document 01, 'The tape line': what holds of all masked terms. `write_terms` cites it.
+-- Specification, section 7: what holds of all masked terms. `write_terms` cites it.
 use Prim.Native.Nat.{ℕ, _^_, _<_, _≤_}
 use Rattle.notional.specs.Masking.{shown, largestCap}
 use Rattle.terms.specs.Terms.{notionalSize}

@@ -1,4 +1,4 @@
--- Document 01, 'Elements', column 'Public': the elements that the masked terms show as they are, and that nothing else is shown.
+-- Specification, clause 3.6: the elements that the masked terms show as they are, and that nothing else is shown.
 use Prim.Native.Nat.{ℕ}
 use mathlib.Core.Bool.{Bool, true, false}
 use mathlib.Core.Path.{_≡_}

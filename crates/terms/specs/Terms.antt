@@ -1,4 +1,4 @@
--- Document 01, 'The tape line': the masked terms, what a full message's elements and a cap put into a line between the event time and the newline.
+-- Specification, clause 7.2: the masked terms, what a full message's elements and a cap put into a line between the event time and the newline.
 use Prim.Native.Nat.{ℕ, _+_}
 use mathlib.Core.Bool.{Bool}
 use mathlib.Core.List.{List, [], _∷_, _++_}

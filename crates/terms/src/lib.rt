@@ -1,4 +1,4 @@
-// The masked terms of a full message: document 01, 'The tape line', between the event time and the newline.
+// The masked terms of a full message (specification, clause 7.2): between the event time and the newline.
 ghost use mathlib.Core.Path.{_≡_};
 ghost use Prim.Native.Nat.{_+_, _≤_};
 ghost use lib.ListN.{length};

@@ -1,4 +1,4 @@
--- Document 01, 'Elements': values that are one of a few codes, byte for byte.
+-- Specification, section 4: values that are one of a few codes, byte for byte.
 use Prim.Native.String.{String}
 use mathlib.Core.Bool.{Bool}
 use mathlib.Core.List.{List, [], _∷_}

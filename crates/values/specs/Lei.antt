@@ -1,4 +1,4 @@
--- Document 01, 'Elements': legal entity identifiers (ISO 17442).
+-- Specification, section 4: legal entity identifiers (ISO 17442).
 use Prim.Native.Nat.{ℕ, _+_, _-_, _*_, _%_}
 use Prim.Native.Char.{code}
 use mathlib.Core.Bool.{Bool}

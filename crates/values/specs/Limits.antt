@@ -1,4 +1,4 @@
--- Document 01, 'Elements': the numbers of the forms.
+-- Specification, section 4: the numbers of the forms.
 use Prim.Native.Nat.{ℕ}
 
 abbrev pub utiLeast : ℕ

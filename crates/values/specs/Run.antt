@@ -1,4 +1,4 @@
--- Document 01, 'Elements': values that are a number of characters of one class.
+-- Specification, section 4: values that are a number of characters of one class.
 use Prim.Native.Nat.{ℕ}
 use Prim.Native.Char.{Char, code}
 use mathlib.Core.Bool.{Bool}

@@ -1,4 +1,4 @@
--- The tape of both histories is the text that document 01 gives. Assumes nothing.
+-- The tape of both histories is the text that was written by hand. Assumes nothing.
 use mathlib.Core.Path.{_≡_, refl}
 use Rattle.submission.specs.History.{tape}
 use Rattle.submission.specs.Demand3.{start}

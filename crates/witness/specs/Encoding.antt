@@ -1,4 +1,4 @@
--- Document 01, 'The message': elements laid out as a message.
+-- Specification, section 2: elements laid out as a message.
 use Prim.Native.Nat.{ℕ, _+_, _*_}
 use Prim.Native.String.{String}
 use mathlib.Core.List.{List, [], _∷_, _++_}

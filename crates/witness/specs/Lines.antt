@@ -1,4 +1,4 @@
--- The tape of both histories, written down from document 01, 'The tape line'.
+-- The tape of both histories, written by hand from the specification, section 7.
 use Prim.Native.String.{String}
 use mathlib.Core.List.{List, [], _∷_, _++_}
 use Rattle.octets.specs.Bytes.{Bytes}
