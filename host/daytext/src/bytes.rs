@@ -1,25 +1,7 @@
-//! A day written as bytes.
+//! The bytes of a block.
 
-use crate::check::check;
 use crate::day::{Block, Body, Content, Element, Elements};
-use crate::fault::{Fault, Stop};
-use crate::text::parse;
-use std::io::Write;
-
-/// Writes the bytes of the day that a text describes. A text that is wrong
-/// is refused before the first byte.
-pub fn encode(text: &[u8], out: &mut impl Write) -> Result<(), Stop> {
-    let day = parse(text)?;
-    check(&day)?;
-    for part in &day.parts {
-        for n in 1..=part.times {
-            for block in &part.blocks {
-                out.write_all(&block_bytes(block, n)?)?;
-            }
-        }
-    }
-    Ok(())
-}
+use crate::fault::Fault;
 
 /// The bytes of a block with n as the counter.
 pub fn block_bytes(block: &Block, n: u64) -> Result<Vec<u8>, Fault> {

@@ -1,9 +1,9 @@
 //! What can be wrong only once the counters have their numbers.
 
+use crate::answer::due_answer;
 use crate::bytes::block_bytes;
 use crate::day::{Block, Day};
 use crate::fault::Fault;
-use crate::report::due_answer;
 
 /// Tries each block with the first and the last number of its counter.
 /// Numbers and lengths never fall as the counter rises, so what is right at

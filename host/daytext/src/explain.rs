@@ -1,10 +1,11 @@
 //! A day's report in words, read beside the day.
 
+use crate::answer::Answer;
 use crate::fault::{Fault, Stop};
 use crate::lines::{lines, Line};
 use crate::messages::{split, Messages, Rest};
 use crate::names;
-use crate::report::{read_line, Answer, ReportLine, HEADING};
+use crate::report::{read_line, ReportLine, HEADING};
 use crate::words::{write_answer, write_message};
 use std::io::{self, Write};
 

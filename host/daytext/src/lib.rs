@@ -4,14 +4,25 @@
 //! `encode` turns the text into the bytes of a day, `decode` turns bytes into
 //! text, `due` writes the report that the text's `due` lines give, and
 //! `explain` puts a report into words. Nothing here judges a message.
+//!
+//! A module uses only modules of the lines below its own, or to its right:
+//!
+//! - `encode`, `due`, `decode`, `explain`: the entry points
+//! - `words`, `check`
+//! - `text`, `block`, `entry`: a text read as a day
+//! - `bytes`, `report`, `answer`: a block's bytes, a message's answer
+//! - `day`, `messages`, `values`, `lines`, `names`, `numbers`, `fault`
 
 #![forbid(unsafe_code)]
 
+mod answer;
 mod block;
 mod bytes;
 mod check;
 mod day;
 mod decode;
+mod due;
+mod encode;
 mod entry;
 mod explain;
 mod fault;
@@ -24,8 +35,8 @@ mod text;
 mod values;
 mod words;
 
-pub use bytes::encode;
 pub use decode::decode;
+pub use due::due;
+pub use encode::encode;
 pub use explain::explain;
 pub use fault::{Fault, Stop};
-pub use report::due;

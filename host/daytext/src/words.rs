@@ -1,8 +1,8 @@
 //! A message and its answer in words.
 
+use crate::answer::Answer;
 use crate::messages::{find, Found};
 use crate::names;
-use crate::report::Answer;
 use crate::values::shown;
 use std::io::{self, Write};
 
