@@ -47,7 +47,7 @@ pub struct Elements {
     pub further: Vec<u8>,
 }
 
-#[derive(Debug)]
+#[derive(Debug, Clone)]
 pub struct Element {
     pub line: usize,
     pub code: u16,

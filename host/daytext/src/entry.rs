@@ -1,4 +1,4 @@
-//! One line of a message block.
+//! One line of a block.
 
 use crate::day::{Due, Element};
 use crate::fault::Fault;
@@ -8,7 +8,8 @@ use crate::values::{shown, Value};
 
 #[derive(Debug)]
 pub enum Entry {
-    Element(Element),
+    Change(Change),
+    Like(Name),
     Count(u16),
     Length(u16),
     /// From `bytes` or `fill`.
@@ -17,11 +18,41 @@ pub enum Entry {
     Due(Due),
 }
 
-/// Reads a line. Counters are allowed inside a repeat only.
-pub fn read(line: &Line, in_repeat: bool) -> Result<Entry, Fault> {
+/// An element, or that an element of the template is left out.
+#[derive(Debug)]
+pub enum Change {
+    Element(Element),
+    Without { line: usize, code: u16 },
+}
+
+impl Change {
+    pub fn line(&self) -> usize {
+        match self {
+            Change::Element(element) => element.line,
+            Change::Without { line, .. } => *line,
+        }
+    }
+
+    pub fn code(&self) -> u16 {
+        match self {
+            Change::Element(element) => element.code,
+            Change::Without { code, .. } => *code,
+        }
+    }
+}
+
+/// The name of a template, and the line in which it stands.
+#[derive(Debug, Clone)]
+pub struct Name {
+    pub line: usize,
+    pub text: String,
+}
+
+/// Reads a line. Counters may be allowed or not.
+pub fn read(line: &Line, counters: bool) -> Result<Entry, Fault> {
     let fault = |sentence| Fault::new(line.number, sentence);
     let entry = entry(line).map_err(fault)?;
-    if has_counter(&entry) && !in_repeat {
+    if has_counter(&entry) && !counters {
         return Err(fault("a counter stands outside a repeat".to_string()));
     }
     Ok(entry)
@@ -29,7 +60,7 @@ pub fn read(line: &Line, in_repeat: bool) -> Result<Entry, Fault> {
 
 fn has_counter(entry: &Entry) -> bool {
     match entry {
-        Entry::Element(element) => element.value.has_counter(),
+        Entry::Change(Change::Element(element)) => element.value.has_counter(),
         Entry::Due(due) => due.numbers.iter().flatten().any(Value::has_counter),
         _ => false,
     }
@@ -38,7 +69,11 @@ fn has_counter(entry: &Entry) -> bool {
 fn entry(line: &Line) -> Result<Entry, String> {
     let (word, rest) = line.word();
     match word {
-        [b'0'..=b'9', ..] => element(line.number, word, rest).map(Entry::Element),
+        [b'0'..=b'9', ..] => {
+            element(line.number, word, rest).map(|element| Entry::Change(Change::Element(element)))
+        }
+        b"without" => without(line.number, rest).map(Entry::Change),
+        b"like" => name("like", line).map(Entry::Like),
         b"count" => number("count", rest).map(Entry::Count),
         b"length" => number("length", rest).map(Entry::Length),
         b"bytes" => hex(rest).map(Entry::Bytes),
@@ -49,6 +84,7 @@ fn entry(line: &Line) -> Result<Entry, String> {
             "`{}` stands alone, with a blank line before and behind it",
             shown(word)
         )),
+        b"template" => Err("`template` stands in the first line of its block".to_string()),
         _ => Err(unknown(line, word)),
     }
 }
@@ -78,6 +114,25 @@ fn element(line: usize, word: &[u8], rest: &[u8]) -> Result<Element, String> {
         offset,
         value,
     })
+}
+
+fn without(line: usize, rest: &[u8]) -> Result<Change, String> {
+    let code = number("without", rest)?;
+    Ok(Change::Without { line, code })
+}
+
+/// The name behind `template` or `like`.
+pub fn name(word: &str, line: &Line) -> Result<Name, String> {
+    let fits = |byte: &u8| byte.is_ascii_alphanumeric() || *byte == b'-';
+    match fields(line.word().1)[..] {
+        [field] if field.iter().all(fits) => Ok(Name {
+            line: line.number,
+            text: String::from_utf8_lossy(field).into_owned(),
+        }),
+        _ => Err(format!(
+            "behind `{word}` stands one name of letters, digits and hyphens"
+        )),
+    }
 }
 
 fn offset_number(text: &[u8]) -> Result<u16, String> {

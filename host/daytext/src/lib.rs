@@ -9,7 +9,7 @@
 //!
 //! - `encode`, `due`, `decode`, `explain`: the entry points
 //! - `words`, `check`
-//! - `text`, `block`, `entry`: a text read as a day
+//! - `text`, `block`, `templates`, `entry`: a text read as a day
 //! - `bytes`, `report`, `answer`: a block's bytes, a message's answer
 //! - `day`, `messages`, `values`, `lines`, `names`, `numbers`, `fault`
 
@@ -31,6 +31,7 @@ mod messages;
 pub mod names;
 mod numbers;
 mod report;
+mod templates;
 mod text;
 mod values;
 mod words;

@@ -1,11 +1,12 @@
-//! A text read as a day: its blocks and repeats.
+//! A text read as a day: its blocks, repeats and templates.
 
-use crate::block::block;
+use crate::block::{block, template};
 use crate::day::{Block, Day, Part};
 use crate::entry::fields;
 use crate::fault::Fault;
 use crate::lines::{blocks, Line};
 use crate::numbers::decimal;
+use crate::templates::Templates;
 
 /// The most that a repeat can say.
 const MOST_TIMES: u64 = 4_294_967_295;
@@ -22,6 +23,7 @@ pub fn parse(text: &[u8]) -> Result<Day, Fault> {
 #[derive(Default)]
 struct Reader {
     parts: Vec<Part>,
+    templates: Templates,
     /// The line of the repeat whose `again` is still to come.
     repeat: Option<usize>,
     /// The line that said `due cut`.
@@ -37,8 +39,11 @@ impl Reader {
         match lines {
             [line] if line.word().0 == b"repeat" => self.open(line),
             [line] if line.word().0 == b"again" => self.close(line),
+            [first, rest @ ..] if first.word().0 == b"template" => {
+                template(first, rest, &mut self.templates)
+            }
             _ => {
-                self.push(block(lines, self.repeat.is_some())?);
+                self.push(block(lines, &self.templates, self.repeat.is_some())?);
                 Ok(())
             }
         }

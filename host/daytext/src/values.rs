@@ -5,12 +5,12 @@ use std::fmt::Write as _;
 use std::io::Write as _;
 
 /// A value whose counters are still open.
-#[derive(Debug, Default)]
+#[derive(Debug, Clone, Default)]
 pub struct Value {
     pieces: Vec<Piece>,
 }
 
-#[derive(Debug)]
+#[derive(Debug, Clone)]
 enum Piece {
     Bytes(Vec<u8>),
     Counter { shift: i128, width: u16 },

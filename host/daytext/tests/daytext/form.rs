@@ -39,5 +39,14 @@ fn the_example_of_a_day() {
     let mut words = Vec::new();
     daytext::explain(&encoded(&examples[1]), &report, &mut words).unwrap();
     let words = String::from_utf8(words).unwrap();
-    assert!(words.starts_with(&examples[2]), "{words}");
+    assert!(words.starts_with(&examples[4]), "{words}");
+}
+
+#[test]
+fn the_example_of_templates() {
+    let examples = examples();
+    let (with, without) = (&examples[2], &examples[3]);
+    assert!(with.contains("like eror"), "{with}");
+    assert!(!without.contains("like"), "{without}");
+    assert_eq!(encoded(with), encoded(without));
 }

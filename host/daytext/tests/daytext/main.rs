@@ -13,3 +13,4 @@ mod program;
 mod refusals;
 mod repeats;
 mod round_trip;
+mod templates;

@@ -219,6 +219,11 @@ fn lines_that_stand_twice() {
         3,
         "the block has a second `due`",
     );
+    is_refused(
+        "template t\n1 A\n\nlike t\nlike t\n",
+        5,
+        "the block has a second `like`",
+    );
 }
 
 #[test]
@@ -287,10 +292,123 @@ fn raw_beside_other_lines() {
         "bytes 00",
         "fill 1 00",
         "due 0 0 0",
+        "like t",
+        "without 1",
     ] {
         is_refused(&format!("\nraw 01\n{other}\n"), 2, sentence);
         is_refused(&format!("\n{other}\nraw 01\n"), 2, sentence);
     }
+}
+
+#[test]
+fn names_of_templates() {
+    for name in ["", " ", " a b", " a_b", " {n}", " \\x41", " \r"] {
+        let sentence = "behind `template` stands one name of letters, digits and hyphens";
+        is_refused(&format!("template{name}\n1 A\n"), 1, sentence);
+        let sentence = "behind `like` stands one name of letters, digits and hyphens";
+        is_refused(&format!("template a\n1 A\n\nlike{name}\n"), 4, sentence);
+    }
+    is_refused(
+        "template t\n1 A\n\n1 A\n\ntemplate t\n2 B\n",
+        6,
+        "there is a template `t` already",
+    );
+}
+
+#[test]
+fn templates_that_are_not_there() {
+    let sentence = "no template `t` stands before this line";
+    is_refused("1 A\nlike t\n", 2, sentence);
+    is_refused("like t\n\ntemplate t\n1 A\n", 1, sentence);
+    is_refused("template t\n1 A\nlike t\n", 3, sentence);
+    is_refused("template T\n1 A\n\nlike t\n", 4, sentence);
+}
+
+#[test]
+fn lines_of_templates() {
+    let alone = "a template has nothing but elements, `like` and `without`";
+    for line in [
+        "count 1",
+        "length 1",
+        "bytes 00",
+        "fill 1 00",
+        "raw 00",
+        "due 0 0 0",
+        "due cut",
+    ] {
+        is_refused(&format!("template t\n1 A\n{line}\n"), 3, alone);
+    }
+    let first = "`template` stands in the first line of its block";
+    is_refused("1 A\ntemplate t\n", 2, first);
+    is_refused("template t\n1 A\ntemplate u\n", 3, first);
+    let none = "the template has no element";
+    is_refused("\ntemplate t\n\n1 A\n", 2, none);
+    is_refused(
+        "template t\n1 A\n\ntemplate u\nlike t\nwithout 1\n",
+        4,
+        none,
+    );
+}
+
+#[test]
+fn codes_that_do_not_rise() {
+    let rise = |code: u16, before: u16| {
+        format!(
+            "code {code} stands behind code {before}; in a block with `template` or `like` codes rise"
+        )
+    };
+    is_refused("template t\n2 B\n1 A\n", 3, &rise(1, 2));
+    is_refused("template t\n2 B\n2 B\n", 3, &rise(2, 2));
+    let template = "template t\n2 B\n\n";
+    is_refused(&format!("{template}like t\n5 X\n4 X\n"), 6, &rise(4, 5));
+    is_refused(&format!("{template}5 X\n5 X\nlike t\n"), 5, &rise(5, 5));
+    is_refused(
+        &format!("{template}like t\n2 X\nwithout 2\n"),
+        6,
+        &rise(2, 2),
+    );
+    is_refused(
+        &format!("{template}like t\nwithout 2\n2 X\n"),
+        6,
+        &rise(2, 2),
+    );
+    is_refused(
+        &format!("{template}like t\nwithout 2\nwithout 2\n"),
+        6,
+        &rise(2, 2),
+    );
+}
+
+#[test]
+fn elements_that_cannot_be_left_out() {
+    is_refused(
+        "template t\n2 B\n\nlike t\nwithout 3\n",
+        5,
+        "the template `t` has no element 3",
+    );
+    let no_like = "`without` stands in a block that has no `like`";
+    is_refused("1 A\nwithout 1\n", 2, no_like);
+    is_refused("without 1\n", 1, no_like);
+    is_refused("template t\n1 A\nwithout 2\n", 3, no_like);
+    let number = "behind `without` stands one number from 0 to 65535";
+    for line in ["without", "without 65536", "without x", "without 1 2"] {
+        is_refused(&format!("template t\n1 A\n\nlike t\n{line}\n"), 5, number);
+    }
+}
+
+#[test]
+fn counters_of_templates() {
+    let template = "template row\n1 A\n2 {n-2}\n\n";
+    is_refused(
+        &format!("{template}3 C\nlike row\n"),
+        6,
+        "a counter of the template `row` stands outside a repeat",
+    );
+    is_refused(
+        &format!("{template}repeat 2\n\nlike row\n\nagain\n"),
+        3,
+        "where the counter is 1 this comes to -1",
+    );
 }
 
 #[test]
@@ -328,10 +446,35 @@ fn too_many_elements() {
 }
 
 /// Pieces of which random texts are made.
-const PIECES: [&[u8]; 24] = [
-    b"count ", b"length ", b"bytes ", b"fill ", b"raw ", b"due ", b"cut", b"repeat ", b"again",
-    b"{n}", b"{n-1:3}", b"\\x4", b"{", b"\\", b"@", b"#", b" ", b"1", b"7 ", b"41", b"\n", b"\n\n",
-    b"\n\n", b"\xff",
+const PIECES: [&[u8]; 28] = [
+    b"count ",
+    b"length ",
+    b"bytes ",
+    b"fill ",
+    b"raw ",
+    b"due ",
+    b"cut",
+    b"repeat ",
+    b"again",
+    b"{n}",
+    b"{n-1:3}",
+    b"\\x4",
+    b"{",
+    b"\\",
+    b"@",
+    b"#",
+    b" ",
+    b"1",
+    b"7 ",
+    b"41",
+    b"\n",
+    b"\n\n",
+    b"\n\n",
+    b"\xff",
+    b"template t\n1 A\n\n",
+    b"like t\n",
+    b"without ",
+    b"template ",
 ];
 
 /// Any text is encoded, or refused with one of its lines.
