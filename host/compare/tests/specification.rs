@@ -1,0 +1,246 @@
+//! The tables of docs/SPECIFICATION.md are what core and checker do and what
+//! the tests use.
+
+use compare::compared::Compared;
+use compare::layout::*;
+use compare::matrix::{is_pair, status_after, ACTIONS, EVENTS};
+use compare::message::Message;
+use compare::order;
+use compare::sound::{plain_new, plain_package, plain_short};
+use std::fs;
+use std::ops::Range;
+use std::path::Path;
+
+/// The cells of a table, row by row, without its heading.
+type Table = Vec<Vec<String>>;
+
+/// The first table behind the line that opens with these words.
+fn table(opening: &str) -> Table {
+    let package = Path::new(env!("CARGO_MANIFEST_DIR"));
+    let text = fs::read_to_string(package.join("../../docs/SPECIFICATION.md"));
+    let text = text.expect("docs/SPECIFICATION.md can be read");
+    let rows: Table = text
+        .lines()
+        .skip_while(|line| !line.starts_with(opening))
+        .skip_while(|line| !line.starts_with('|'))
+        .take_while(|line| line.starts_with('|'))
+        .map(cells)
+        .collect();
+    assert!(rows.len() > 2, "{opening} has a table");
+    rows[2..].to_vec()
+}
+
+fn cells(line: &str) -> Vec<String> {
+    let inside = line.trim_matches('|');
+    inside.split('|').map(|cell| cell.trim().into()).collect()
+}
+
+/// A number as the document writes it, with commas.
+fn number(text: &str) -> u64 {
+    let digits = text.replace(',', "");
+    digits.parse().unwrap_or_else(|_| panic!("{text}"))
+}
+
+/// The fields of a layout: the columns offset and length.
+fn fields(opening: &str) -> Vec<Range<usize>> {
+    let field = |row: &Vec<String>| {
+        let (offset, length) = (number(&row[0]) as usize, number(&row[1]) as usize);
+        offset..offset + length
+    };
+    table(opening).iter().map(field).collect()
+}
+
+#[test]
+fn the_line() {
+    let line = [
+        IDENTIFIER_IN_LINE,
+        PREVIOUS_IN_LINE,
+        ACTION_IN_LINE,
+        EVENT_IN_LINE,
+        EVENT_TIME_IN_LINE,
+        TERMS_IN_LINE,
+        NEWLINE_IN_LINE,
+    ];
+    assert_eq!(fields("**7.1**"), line);
+    assert_eq!(LINE_SIZE, 146);
+}
+
+#[test]
+fn the_masked_terms() {
+    let terms = [
+        EXECUTION_IN_LINE,
+        EFFECTIVE_IN_LINE,
+        EXPIRATION_IN_LINE,
+        CLEARED_IN_LINE,
+        NON_STANDARDIZED_IN_LINE,
+        BLOCK_IN_LINE,
+        LARGE_IN_LINE,
+        PACKAGE_IN_LINE,
+        PRICE_IN_LINE,
+        NOTATION_IN_LINE,
+        PRICE_CURRENCY_IN_LINE,
+        CLASS_IN_LINE,
+        NOTIONAL_IN_LINE,
+        PLUS_IN_LINE,
+        NOTIONAL_CURRENCY_IN_LINE,
+        LOCATION_IN_LINE,
+    ];
+    assert_eq!(fields("**7.2**"), terms);
+}
+
+#[test]
+fn the_header() {
+    let header = [
+        ROWS_IN_HEADER,
+        FIRST_ROW_IN_HEADER,
+        NEXT_IN_HEADER,
+        CAPS_IN_HEADER,
+        ROW_SIZE_IN_HEADER,
+        CAPACITY_IN_HEADER,
+    ];
+    assert_eq!(fields("**8.1**"), header);
+}
+
+#[test]
+fn a_row() {
+    let row = [
+        STATUS_IN_ROW..STATUS_IN_ROW + 1,
+        LENGTH_IN_ROW..LENGTH_IN_ROW + 1,
+        UTI_IN_ROW,
+        IDENTIFIER_IN_ROW,
+        TERMS_IN_ROW,
+        TAIL_IN_ROW,
+    ];
+    assert_eq!(fields("**8.3**"), row);
+}
+
+#[test]
+fn the_order_of_rules() {
+    let listed = |row: &Vec<String>| -> Vec<u8> {
+        row[1].split(", ").map(|rule| number(rule) as u8).collect()
+    };
+    let orders: Vec<Vec<u8>> = table("**9.1**").iter().map(listed).collect();
+    assert_eq!(
+        orders,
+        [&order::OPENING[..], &order::SUBMITTING, &order::ASKING]
+    );
+}
+
+#[test]
+fn the_matrix() {
+    let rows = table("**5.3**");
+    assert_eq!(rows.len(), ACTIONS.len());
+    let events: Vec<Option<&str>> = EVENTS
+        .iter()
+        .map(|&event| Some(event))
+        .chain([None])
+        .collect();
+    for (row, action) in rows.iter().zip(ACTIONS) {
+        assert_eq!((row[0].as_str(), row.len()), (action, 1 + events.len()));
+        for (mark, event) in row[1..].iter().zip(&events) {
+            assert_eq!(mark == "x", is_pair(action, *event), "{action} {event:?}");
+        }
+    }
+}
+
+#[test]
+fn the_steps() {
+    let statuses = ["unknown", "live", "closed", "errored", "ported"];
+    let rows = table("**5.2**");
+    assert_eq!(rows.len(), ACTIONS.len());
+    for (row, action) in rows.iter().zip(ACTIONS) {
+        assert_eq!(row[0], action);
+        for (status, name) in statuses.iter().enumerate() {
+            let admitted = row[2].split(", ").any(|from| from == *name);
+            let after = if row[3] == "the same" {
+                name
+            } else {
+                row[3].as_str()
+            };
+            let due = admitted.then(|| statuses.iter().position(|&to| to == after));
+            let step = status_after(action, status as u8).map(|to| Some(usize::from(to)));
+            assert_eq!(step, due, "{action} from {name}");
+        }
+    }
+}
+
+/// A ledger of one row, opened with the largest caps, and a tape buffer.
+fn opened() -> Compared {
+    let mut compared = Compared::new();
+    compared.set_ledger(&[0; ledger_size(1)]);
+    compared.set_tape(&[0; LINE_SIZE]);
+    assert_eq!(compared.open(&[1_000_000_000_000_000; 5]).verdict, 0);
+    compared
+}
+
+/// The notional that a line shows for an amount.
+fn shown(amount: &str) -> u64 {
+    let mut compared = opened();
+    let message = plain_new().with(20, amount);
+    assert_eq!(compared.submit(&message.encode()).verdict, 0, "{amount}");
+    let digits = std::str::from_utf8(&compared.tape()[NOTIONAL_IN_LINE]);
+    number(digits.expect("digits"))
+}
+
+/// Halfway between two multiples near the end of each band, and just below.
+#[test]
+fn the_bands() {
+    const UNIT: u64 = 100_000;
+    let text = |parts: u64| format!("{}.{:05}", parts / UNIT, parts % UNIT);
+    for row in table("**6.1**") {
+        let step = number(&row[1]);
+        let end = match row[0].as_str() {
+            "no limit" => 100 * step,
+            limit => number(limit),
+        };
+        let halfway = (end - 2 * step) * UNIT + step * UNIT / 2;
+        assert_eq!(shown(&text(halfway)), end - step, "{row:?}");
+        assert_eq!(shown(&text(halfway - 1)), end - 2 * step, "{row:?}");
+    }
+}
+
+#[test]
+fn the_fourteen_examples() {
+    let rows = table("**6.7**");
+    let examples = rows
+        .iter()
+        .flat_map(|row| [(&row[0], &row[1]), (&row[2], &row[3])]);
+    let mut count = 0;
+    for (amount, due) in examples {
+        assert_eq!(shown(&amount.replace(',', "")), number(due), "{amount}");
+        count += 1;
+    }
+    assert_eq!(count, 14);
+}
+
+/// The verdict and element of a message about an unknown swap.
+fn judged(message: &Message) -> (u8, u8) {
+    let answer = opened().submit(&message.encode());
+    (answer.verdict, answer.element)
+}
+
+/// The column needed: what is answered where the element is missing.
+#[test]
+fn the_elements() {
+    let rows = table("## 3 Elements");
+    assert_eq!(rows.len(), usize::from(LAST_CODE));
+    let package = plain_package("1", "2.5").with(10, "N").with(11, "True");
+    let short = plain_short("TERM", Some("ETRM"));
+    for (row, code) in rows.iter().zip(1..) {
+        assert_eq!(number(&row[0]), u64::from(code));
+        let full = match row[4].as_str() {
+            "all" | "full" if code != 2 => (7, code),
+            "all" => (6, 2),
+            "by the matrix" => (10, 0),
+            "no" => (0, 0),
+            condition => {
+                assert!(condition.starts_with("if "), "{condition}");
+                (11, code)
+            }
+        };
+        assert_eq!(judged(&package.without(code)), full, "{row:?}");
+        let missed = ["all", "by the matrix"].contains(&row[4].as_str());
+        let brief = if missed { full } else { (15, 0) };
+        assert_eq!(judged(&short.without(code)), brief, "{row:?}");
+    }
+}
