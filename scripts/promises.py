@@ -1,4 +1,8 @@
-"""promises.py PROMISES.md: every name that the document gives exists, and it quotes what is promised, as the files have it.
+"""promises.py PROMISES.md: the document has an entry for each clause, every name that it gives exists, and it quotes what is promised, as the files have it.
+
+An entry opens with the number of a clause of SPECIFICATION and a title, as in '- 2.3 title' or '- Verdict 7 title'. Every clause has one entry, under the
+section of the same title and in the same order. The quotations of SPECIFICATION are lines of the named files, in a row. No document has a longer line
+than LONGEST_LINE bytes.
 
 A name stands in back quotes and is one of
   crate::module::function          a function of crates/crate/src, or a method there
@@ -69,7 +73,7 @@ CITED = {
     "dayrun::run::judge_block": ["Nothing-lost"],
 }
 
-# functions of document 01's forms, whose contracts are quoted too
+# functions of the section 'Forms in the code', whose contracts are quoted too
 FORMS = [
     "message::start",
     "message::seek",
@@ -88,6 +92,13 @@ FORMS = [
 ]
 
 TEST_PROGRAMS = ["vectors"]
+
+SPECIFICATION = pathlib.Path("docs/SPECIFICATION.md")
+CLAUSE = r"\*\*(\d+\.\d+|Verdict \d+)\*\*"
+ENTRY = r"- (\d+\.\d+|Verdict \d+) (?=\S)"
+
+DOCUMENTS = ["*.md", "docs/**/*.md", "host/**/*.md", "days/*.md", "bench/*.md"]
+LONGEST_LINE = 160
 
 
 def text(path):
@@ -277,15 +288,24 @@ def quotations(document):
     return [(file, quoted.rstrip("\n")) for file, quoted in re.findall(r"^```(\S+)\n(.*?)^```$", document, re.M | re.S)]
 
 
-def quotation_faults(document):
-    """The quotations are the files' text, and none that is due is missing."""
-    quoted = quotations(document)
-    for file, block in quoted:
-        lines, source = block.splitlines(), text(CRATES / file) or ""
+def misquotations(document, root):
+    """The quotations that are not the text of their files under root, each with the first line that is not."""
+    for file, block in quotations(document):
+        lines, source = block.splitlines(), text(root / file) or ""
         for i in range(len(lines)):
             if not holds(source, "\n".join(lines[: i + 1])):
                 yield "not the text of %s: '%s'" % (file, lines[i])
                 break
+
+
+def without_quotations(document):
+    return re.sub(r"^```.*?^```$", "", document, flags=re.M | re.S)
+
+
+def quotation_faults(document):
+    """The quotations are the files' text, and none that is due is missing."""
+    quoted = quotations(document)
+    yield from misquotations(document, CRATES)
     for file, name, source in dict.fromkeys(due()):
         if not any(f == file and holds(block, source) for f, block in quoted):
             yield "not quoted whole, of %s: %s" % (file, name)
@@ -313,20 +333,56 @@ def citation_faults():
                 yield "the contract of %s does not cite %s" % (function, name)
 
 
+def outline(document, clause):
+    """The titles of the numbered sections and the numbers of what opens like a clause, in order."""
+    return ["".join(found) for found in re.findall(r"^(?:(## \d+ .+)$|%s)" % clause, without_quotations(document), re.M)]
+
+
+def clause_faults(document):
+    """The document has the sections and the clauses of the specification, each once and in the same order."""
+    clauses, entries = outline(text(SPECIFICATION), CLAUSE), outline(document, ENTRY)
+    for name in dict.fromkeys(clauses + entries):
+        for where, names in (("in the specification", clauses), ("in the document", entries)):
+            if names.count(name) != 1:
+                yield "%s %s: %s" % ("not" if name not in names else "more than once", where, name)
+    both = [name for name in dict.fromkeys(entries) if name in clauses]
+    for name, due in zip(both, [name for name in dict.fromkeys(clauses) if name in entries]):
+        if name != due:
+            yield "wrong order: %s stands where %s is due" % (name, due)
+            break
+
+
+def specification_faults():
+    """The quotations of the specification are the files' text."""
+    for fault in misquotations(text(SPECIFICATION), pathlib.Path()):
+        yield "%s: %s" % (SPECIFICATION, fault)
+
+
+def length_faults():
+    """No document has a line that is too long."""
+    for path in sorted(path for pattern in DOCUMENTS for path in pathlib.Path().glob(pattern)):
+        for number, line in enumerate(path.read_bytes().splitlines(), 1):
+            if len(line) > LONGEST_LINE:
+                yield "%s:%d: a line of %d bytes" % (path, number, len(line))
+
+
 def main(path):
     whole = pathlib.Path(path).read_text(encoding="utf-8")
-    document = re.sub(r"^```.*?^```$", "", whole, flags=re.M | re.S)
+    document = without_quotations(whole)
     names = re.findall(r"`([^`\n]+)`", document)
     faults = ["no such name: " + name for name in sorted(set(names)) if not exists(name)]
     edits = ["%s/must-fail/%s" % (p.parts[1], p.name) for p in sorted(CRATES.glob("*/must-fail/*.edit"))]
     faults += ["not in the document: " + name for name in edits + list(public_functions()) + list(program_functions()) if name not in names]
+    faults += clause_faults(whole)
     faults += quotation_faults(whole)
     faults += citation_faults()
+    faults = ["%s: %s" % (path, fault) for fault in faults] + list(specification_faults()) + list(length_faults())
     for fault in faults:
-        print("%s: %s" % (path, fault), file=sys.stderr)
+        print(fault, file=sys.stderr)
     if faults:
         sys.exit(1)
-    print("%s: %d names, each of them exists; %d quotations, as the files have them" % (path, len(set(names)), len(quotations(whole))))
+    counts = len(re.findall("^" + ENTRY, document, re.M)), len(set(names)), len(quotations(whole))
+    print("%s: %d clauses, an entry each; %d names, each of them exists; %d quotations, as the files have them" % (path, *counts))
 
 
 if __name__ == "__main__":
