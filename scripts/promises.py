@@ -338,23 +338,23 @@ def outline(document, clause):
     return ["".join(found) for found in re.findall(r"^(?:(## \d+ .+)$|%s)" % clause, without_quotations(document), re.M)]
 
 
-def clause_faults(document):
+def clause_faults(document, specification):
     """The document has the sections and the clauses of the specification, each once and in the same order."""
-    clauses, entries = outline(text(SPECIFICATION), CLAUSE), outline(document, ENTRY)
+    clauses, entries = outline(specification, CLAUSE), outline(document, ENTRY)
     for name in dict.fromkeys(clauses + entries):
         for where, names in (("in the specification", clauses), ("in the document", entries)):
             if names.count(name) != 1:
                 yield "%s %s: %s" % ("not" if name not in names else "more than once", where, name)
     both = [name for name in dict.fromkeys(entries) if name in clauses]
-    for name, due in zip(both, [name for name in dict.fromkeys(clauses) if name in entries]):
-        if name != due:
-            yield "wrong order: %s stands where %s is due" % (name, due)
+    for name, wanted in zip(both, [name for name in dict.fromkeys(clauses) if name in entries]):
+        if name != wanted:
+            yield "wrong order: %s stands where %s is due" % (name, wanted)
             break
 
 
-def specification_faults():
+def specification_faults(specification):
     """The quotations of the specification are the files' text."""
-    for fault in misquotations(text(SPECIFICATION), pathlib.Path()):
+    for fault in misquotations(specification, pathlib.Path()):
         yield "%s: %s" % (SPECIFICATION, fault)
 
 
@@ -368,15 +368,16 @@ def length_faults():
 
 def main(path):
     whole = pathlib.Path(path).read_text(encoding="utf-8")
+    specification = SPECIFICATION.read_text(encoding="utf-8")
     document = without_quotations(whole)
     names = re.findall(r"`([^`\n]+)`", document)
     faults = ["no such name: " + name for name in sorted(set(names)) if not exists(name)]
     edits = ["%s/must-fail/%s" % (p.parts[1], p.name) for p in sorted(CRATES.glob("*/must-fail/*.edit"))]
     faults += ["not in the document: " + name for name in edits + list(public_functions()) + list(program_functions()) if name not in names]
-    faults += clause_faults(whole)
+    faults += clause_faults(whole, specification)
     faults += quotation_faults(whole)
     faults += citation_faults()
-    faults = ["%s: %s" % (path, fault) for fault in faults] + list(specification_faults()) + list(length_faults())
+    faults = ["%s: %s" % (path, fault) for fault in faults] + list(specification_faults(specification)) + list(length_faults())
     for fault in faults:
         print(fault, file=sys.stderr)
     if faults:
