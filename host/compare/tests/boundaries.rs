@@ -2,8 +2,9 @@
 //! step to each side. What is expected is derived by hand.
 
 use compare::compared::Compared;
-use compare::layout::{self, ledger_size, Header, Row, CAPACITY_IN_HEADER, HEADER_SIZE};
+use compare::layout::{self, ledger_size, row_range, Header, Row, CAPACITY_IN_HEADER, HEADER_SIZE};
 use compare::layout::{CLASS_IN_LINE, IDENTIFIER_IN_LINE, NEWLINE_IN_LINE, NOTIONAL_IN_LINE};
+use compare::layout::{IDENTIFIER_IN_ROW, ROWS_IN_HEADER, TERMS_IN_LINE, UTI_IN_ROW};
 use compare::layout::{IDENTIFIER_LIMIT, LARGEST_CAPACITY, LINE_SIZE, NEXT_IN_HEADER};
 use compare::layout::{NOTIONAL_SIZE, SHORTEST_LEDGER, UTI_SIZE};
 use compare::layout::{PLUS_IN_LINE, PREVIOUS_IN_LINE, PRICE_IN_LINE, PRICE_SIZE};
@@ -95,6 +96,73 @@ fn all_elements_at_once() {
 }
 
 #[test]
+fn elements_of_a_full_message() {
+    let new = plain_new();
+    for (action, event) in [
+        ("NEWT", Some("TRAD")),
+        ("MODI", Some("TRAD")),
+        ("CORR", None),
+        ("REVI", None),
+    ] {
+        // On a fresh ledger only NEWT is admitted.
+        let passes = if action == "NEWT" { (0, 0) } else { (15, 0) };
+        let message = with_action(&new, action, event);
+        assert_eq!(judged(&message.encode()), passes, "{action}");
+        // Elements that are not needed, one at a time and all at once.
+        let mut whole = message.clone();
+        for (code, value) in [
+            (11, "True"),
+            (16, "P"),
+            (17, "1"),
+            (18, "1"),
+            (19, "JPY"),
+            (22, "GB"),
+        ] {
+            let more = message.with(code, value);
+            assert_eq!(judged(&more.encode()), passes, "{action} {code}");
+            whole.set(code, value);
+        }
+        assert_eq!(judged(&whole.encode()), passes, "{action}");
+        // The elements of a short message, and the action alone.
+        let short = plain_short(action, event);
+        assert_eq!(judged(&short.encode()), (7, 6), "{action}");
+        assert_eq!(judged(&alone(action).encode()), (7, 1), "{action}");
+    }
+}
+
+#[test]
+fn elements_of_a_short_message() {
+    for (action, event) in [
+        ("TERM", Some("ETRM")),
+        ("EROR", None),
+        ("PRTO", Some("PTNG")),
+    ] {
+        let message = plain_short(action, event);
+        assert_eq!(judged(&message.encode()), (15, 0), "{action}");
+        let early = message.with(5, "1900-01-01T00:00:00Z");
+        assert_eq!(judged(&early.encode()), (15, 0), "{action}");
+        assert_eq!(judged(&alone(action).encode()), (7, 1), "{action}");
+        // The elements of a full message.
+        let full = with_action(&plain_new(), action, event);
+        assert_eq!(judged(&full.encode()), (8, 6), "{action}");
+    }
+}
+
+/// The message with another action and event.
+fn with_action(message: &Message, action: &str, event: Option<&str>) -> Message {
+    let message = message.with(2, action);
+    match event {
+        Some(event) => message.with(3, event),
+        None => message.without(3),
+    }
+}
+
+/// A message that has its action alone.
+fn alone(action: &str) -> Message {
+    Message::default().with(2, action)
+}
+
+#[test]
 fn lengths_of_a_package_identifier() {
     let package = |length: usize| {
         plain_package("1", "5")
@@ -135,7 +203,7 @@ fn digits_of_an_amount() {
 type Due = (u8, u8);
 
 /// Prices, what is due under notation 1 and under notation 3.
-const PRICES: [(&str, Due, Due); 16] = [
+const PRICES: [(&str, Due, Due); 22] = [
     ("123456789012345678", (0, 0), (12, 0)),
     ("-123456789012345678", (0, 0), (12, 0)),
     ("1234567890123456789", (9, 17), (9, 17)),
@@ -152,6 +220,12 @@ const PRICES: [(&str, Due, Due); 16] = [
     ("-0.1234567890", (0, 0), (0, 0)),
     ("0.12345678901", (0, 0), (12, 0)),
     ("00.1234567890", (0, 0), (12, 0)),
+    ("123456.78901", (0, 0), (0, 0)),
+    ("-1234567890.1", (0, 0), (0, 0)),
+    ("12345678901.5", (0, 0), (12, 0)),
+    ("-1234567890.12", (0, 0), (12, 0)),
+    ("-000000000000", (0, 0), (12, 0)),
+    ("-1.00000000000", (0, 0), (12, 0)),
 ];
 
 #[test]
@@ -200,6 +274,53 @@ fn prices_as_shown() {
         );
         let due = format!("{shown:PRICE_SIZE$}");
         assert_eq!(compared.tape()[PRICE_IN_LINE], *due.as_bytes(), "{price}");
+    }
+}
+
+#[test]
+fn terms_as_shown() {
+    let (new, not_cleared) = (plain_new(), plain_new().with(10, "N"));
+    let package = |notation: &str| plain_package(notation, "-01.250");
+    for (message, marks, price, location) in [
+        (new.clone(), "Y FFF", "", ""),
+        (new.with(10, "I"), "I FFF", "", ""),
+        (new.with(12, "True"), "Y TFF", "", ""),
+        (new.with(13, "true"), "Y FTF", "", ""),
+        (new.with(22, "GB"), "Y FFF", "", "GB"),
+        (not_cleared.with(11, "True"), "NTFFF", "", ""),
+        (not_cleared.with(11, "true"), "NTFFF", "", ""),
+        (not_cleared.with(11, "False"), "NFFFF", "", ""),
+        (package("1"), "Y FFT", "-1.25               1USD", ""),
+        (
+            package("1").with(15, "true"),
+            "Y FFT",
+            "-1.25               1USD",
+            "",
+        ),
+        (
+            package("3").without(19),
+            "Y FFT",
+            "-1.25               3",
+            "",
+        ),
+        // What is sent although its "if" is not met is left out.
+        (new.with(11, "True"), "Y FFF", "", ""),
+        (new.with(10, "I").with(11, "True"), "I FFF", "", ""),
+        (package("1").with(15, "False"), "Y FFF", "", ""),
+        (package("1").with(15, "false"), "Y FFF", "", ""),
+        (package("3"), "Y FFT", "-1.25               3", ""),
+        (new.with(19, "CHF"), "Y FFF", "", ""),
+    ] {
+        let mut compared = opened(CAPS);
+        assert_eq!(compared.submit(&message.encode()).verdict, 0);
+        let due = format!(
+            "2024-03-01T10:15:30Z2024-03-042029-03-04{marks}{price:24}IR0000000001000000 USD{location:2}"
+        );
+        assert_eq!(
+            compared.tape()[TERMS_IN_LINE],
+            *due.as_bytes(),
+            "{message:?}"
+        );
     }
 }
 
@@ -489,6 +610,44 @@ fn order_of_dates_and_times() {
 }
 
 #[test]
+fn order_across_months_and_years() {
+    // Effective, expiration and settlement.
+    for (dates, due) in [
+        (["2024-12-31", "2025-01-01", "2025-01-01"], 0),
+        (["2025-01-01", "2024-12-31", "2025-01-01"], 13),
+        (["2024-12-30", "2025-01-01", "2024-12-31"], 13),
+        (["2024-01-31", "2024-02-01", "2024-02-01"], 0),
+        (["2024-02-01", "2024-01-31", "2024-02-01"], 13),
+        (["2024-01-01", "2024-02-01", "2024-01-31"], 13),
+        (["2024-02-28", "2024-02-29", "2024-03-01"], 0),
+        (["2024-03-01", "2024-02-29", "2024-03-01"], 13),
+        (["2024-09-30", "2024-10-01", "2024-10-09"], 0),
+        (["2024-10-09", "2024-10-10", "2024-10-09"], 13),
+        (["1900-01-01", "9999-12-31", "9999-12-31"], 0),
+        (["9999-12-31", "1900-01-01", "9999-12-31"], 13),
+        (["1900-01-01", "9999-12-31", "1900-01-01"], 13),
+    ] {
+        let [effective, expiration, settlement] = dates;
+        let message = plain_new().with(7, effective).with(8, expiration);
+        let message = message.with(9, settlement);
+        assert_eq!(judged(&message.encode()), (due, 0), "{dates:?}");
+    }
+    // Two times, the first before the second: execution, then reporting.
+    for (earlier, later) in [
+        ("2024-03-01T09:59:59Z", "2024-03-01T10:00:00Z"),
+        ("2024-03-01T10:09:59Z", "2024-03-01T10:10:00Z"),
+        ("2024-02-29T23:59:59Z", "2024-03-01T00:00:00Z"),
+        ("2023-12-31T23:59:59Z", "2024-01-01T00:00:00Z"),
+        ("1900-01-01T00:00:00Z", "9999-12-31T23:59:59Z"),
+    ] {
+        let message = plain_new().with(6, earlier).with(5, later);
+        assert_eq!(judged(&message.encode()), (0, 0), "{earlier}");
+        let message = plain_new().with(6, later).with(5, earlier);
+        assert_eq!(judged(&message.encode()), (13, 0), "{earlier}");
+    }
+}
+
+#[test]
 fn check_digits_of_a_lei() {
     // 00, 01 and 99 pass where the remainder is 1.
     for (check, other) in [("97", "00"), ("98", "01"), ("02", "99")] {
@@ -618,6 +777,29 @@ fn the_next_identifier_at_its_end() {
 }
 
 #[test]
+fn identifiers_that_carry() {
+    let ended = plain_short("TERM", Some("ETRM"));
+    for (previous, next, shown) in [
+        (254, 255, "000000000255000000000254"),
+        (255, 256, "000000000256000000000255"),
+        (65_535, 65_536, "000000065536000000065535"),
+        (4_294_967_294, 4_294_967_295, "004294967295004294967294"),
+        (4_294_967_295, 4_294_967_296, "004294967296004294967295"),
+        (549_755_813_887, 549_755_813_888, "549755813888549755813887"),
+        (999_999_999_998, 999_999_999_999, "999999999999999999999998"),
+    ] {
+        let (answer, compared) = submit_to(&in_use(next, previous), &ended);
+        assert_eq!((answer.verdict, answer.identifier), (0, next));
+        let lead = IDENTIFIER_IN_LINE.start..PREVIOUS_IN_LINE.end;
+        assert_eq!(compared.tape()[lead], *shown.as_bytes());
+        let row = &compared.ledger()[row_range(0)];
+        assert_eq!(layout::u64_at(row, IDENTIFIER_IN_ROW), next);
+        let raised = layout::u64_at(compared.ledger(), NEXT_IN_HEADER);
+        assert_eq!(raised, next + 1);
+    }
+}
+
+#[test]
 fn a_row_s_identifier_at_its_ends() {
     let next = 50;
     let uti = plain_new();
@@ -684,19 +866,37 @@ fn lengths_of_a_tape_buffer() {
     }
 }
 
-#[test]
-fn a_hundred_thousand_rows() {
-    let length = ledger_size(100_000);
-    let mut header = Header::opened(length, CAPS);
-    header.rows = 100_000;
+/// A ledger of so many rows, of which the first are in use, with identifiers
+/// from 1 on.
+fn with_rows(capacity: usize, rows: u64) -> Vec<u8> {
+    let mut ledger = vec![0xee; ledger_size(capacity)];
+    let mut header = Header::opened(ledger.len(), CAPS);
+    header.rows = rows as u32;
     header.next = 200_000;
     let terms = terms_of(&plain_new(), &CAPS);
     let row = |n: u64| Row::new(swap(n).value(1), n + 1, terms);
-    let rows: Vec<Row> = (0..100_000).map(row).collect();
-    let mut ledger = vec![0xee; length];
+    let rows: Vec<Row> = (0..rows).map(row).collect();
     layout::write(&mut ledger, &header, &rows);
+    ledger
+}
+
+#[test]
+fn rows_in_use_that_carry() {
+    for rows in [255, 65_535] {
+        let ledger = with_rows(rows as usize + 1, rows);
+        let (answer, compared) = submit_to(&ledger, &swap(rows));
+        assert_eq!(answer.identifier, 200_000);
+        let raised = layout::u32_at(compared.ledger(), ROWS_IN_HEADER);
+        assert_eq!(u64::from(raised), rows + 1);
+        let row = &compared.ledger()[row_range(rows as usize)];
+        assert_eq!(row[UTI_IN_ROW].trim_ascii_end(), swap(rows).value(1));
+    }
+}
+
+#[test]
+fn a_hundred_thousand_rows() {
     let mut compared = Compared::new();
-    compared.set_ledger(&ledger);
+    compared.set_ledger(&with_rows(100_000, 100_000));
     compared.set_tape(&[b'x'; LINE_SIZE]);
     assert_eq!(compared.submit(&swap(100_000).encode()).verdict, 17);
     let changed = swap(99_999).with(2, "MODI");

@@ -5,16 +5,28 @@ use compare::cycles::{next_message, Model};
 use compare::garbage::flip;
 use compare::layout::{self, ledger_size, Header, Row, EXECUTION_IN_TERMS, HEADER_SIZE};
 use compare::layout::{IDENTIFIER_LIMIT, LARGEST_CAPACITY, LINE_SIZE, PREVIOUS_IN_LINE};
-use compare::layout::{ROW_SIZE, SHORTEST_LEDGER, TERMS_IN_LINE};
+use compare::layout::{ROW_SIZE, SHORTEST_LEDGER, TERMS_IN_LINE, UTI_SIZE};
 use compare::message::Message;
 use compare::random::Random;
 use compare::sound::{plain_new, plain_short};
 use compare::terms::terms_of;
 use compare::{submissions, values};
-use sdr::{Answer, CLOSED, ERRORED, LIVE};
+use sdr::{Answer, CLOSED, ERRORED, LIVE, UNKNOWN};
 
 const CAPS: [u64; 5] = [1_000, 250_000_000, 100_000, 1_000_000_000, 150_000_000_000];
 const NEXT: u64 = 40;
+/// Caps that are out of range or not their own rounded amount.
+const WRONG_CAPS: [u64; 9] = [
+    0,
+    995,
+    999,
+    1_050,
+    250_400_000,
+    999_999_999_999_999,
+    1_000_000_000_000_001,
+    1_000_050_000_000_000,
+    u64::MAX,
+];
 
 fn header(length: usize) -> Header {
     let mut header = Header::opened(length, CAPS);
@@ -100,7 +112,7 @@ fn each_field_of_the_header() {
         add(&|header| header.capacity = capacity);
     }
     for class in 0..5 {
-        for cap in [0, 999, 1_050, 250_400_000, 1_000_000_000_000_001, u64::MAX] {
+        for cap in WRONG_CAPS {
             add(&|header| header.caps[class] = cap);
         }
     }
@@ -120,6 +132,14 @@ fn headers_that_look_odd_and_are_sound() {
     let mut full = header(ledger_size(3));
     full.next = 10;
     assert_eq!(verdicts(&ledger_of(&full, &rows(), ledger_size(3))), (0, 0));
+    // Each class has the lowest and the highest cap.
+    for class in 0..5 {
+        for cap in [1_000, 1_000_000_000_000_000] {
+            let mut capped = header(length);
+            capped.caps[class] = cap;
+            assert_eq!(verdicts(&ledger_of(&capped, &rows(), length)), (0, 0));
+        }
+    }
     // No row in use: the swap is unknown.
     let mut empty = header(length);
     empty.rows = 0;
@@ -189,7 +209,7 @@ fn a_wrong_row_of_another_swap_is_no_fault() {
 
 #[test]
 fn rows_with_another_length_are_not_the_swap_s() {
-    for length in [0, 1, 20, 21, 23, 25, 52, 53, 128, 255] {
+    for length in [0, 1, 20, 21, 23, 25, 52, 53, 128, 24 + 128, 255] {
         // The message's UTI has 24 characters.
         assert_eq!(
             verdicts_with(|row| row.length = length),
@@ -199,6 +219,26 @@ fn rows_with_another_length_are_not_the_swap_s() {
     }
     assert_eq!(verdicts_with(|row| row.uti[0] ^= 1), (15, 0));
     assert_eq!(verdicts_with(|row| row.uti[23] ^= 1), (15, 0));
+}
+
+#[test]
+fn every_byte_of_a_uti_is_compared() {
+    let mut header = header(SHORTEST_LEDGER);
+    header.rows = 1;
+    for size in [21, UTI_SIZE] {
+        let uti = vec![b'A'; size];
+        let row = Row::new(&uti, 7, terms_of(&plain_new(), &CAPS));
+        let status = |row: &Row| {
+            let ledger = ledger_of(&header, std::slice::from_ref(row), SHORTEST_LEDGER);
+            lent(&ledger).status(&uti).status
+        };
+        assert_eq!(status(&row), LIVE);
+        for at in 0..size {
+            let mut other = row.clone();
+            other.uti[at] = b'a';
+            assert_eq!(status(&other), UNKNOWN, "byte {at} of {size}");
+        }
+    }
 }
 
 #[test]
