@@ -37,7 +37,7 @@ fn digit_of(b: u8) -> u64
 }
 
 // A decimal number; one that does not fit 64 bits counts as the largest that does.
-pub fn number_of(v: &[u8]) -> u64 {
+fn number_of(v: &[u8]) -> u64 {
     let mut n: u64 = 0;
     let mut i: usize = 0;
     while i < v.len() {

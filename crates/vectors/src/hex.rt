@@ -6,9 +6,6 @@ use libc::STDOUT_FILENO;
 // The most bytes that a line has in hexadecimal.
 pub const LONGEST: usize = 4096;
 
-// The most decimal digits that 64 bits have.
-const DIGITS: usize = 20;
-
 pub fn say(s: &[u8]) {
     io::write_all(STDOUT_FILENO, s);
 }
@@ -65,25 +62,6 @@ fn say_digit(n: u8)
         return;
     }
     say(&[b'a' + (n - 10)]);
-}
-
-// The zeros before the first other digit or before the last one.
-fn leading_zeros(digits: &[u8]) -> usize {
-    let mut i: usize = 0;
-    while i + 1 < digits.len() {
-        if digits[i] != b'0' {
-            return i;
-        }
-        i += 1;
-    }
-    i
-}
-
-// A number in decimal.
-pub fn say_number(n: u64) {
-    let mut digits = [0u8; DIGITS];
-    octets::write_digits(&mut digits, n);
-    say(octets::part_of(&digits, leading_zeros(&digits), DIGITS));
 }
 
 fn say_byte(b: u8) {

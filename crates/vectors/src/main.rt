@@ -1,12 +1,11 @@
 // Answers a table of tests. Each line of standard input is a word, a space and what it asks of; the line is written out with
-// the core's answer. expect.py says what each line must get.
+// the core's answer. The answers that are due come from the separate checker (host/checker).
 ghost use Prim.Native.Nat.{_≤_};
 ghost use lib.ListN.{length};
 
 mod fields;
 mod forms;
 mod hex;
-mod ledgers;
 mod lines;
 mod tables;
 
@@ -114,11 +113,6 @@ fn answer(word: &[u8], rest: &[u8]) {
     let line = lines::place(word);
     if line < lines::COUNT {
         lines::answer(line, rest);
-        return;
-    }
-    let ledger = ledgers::place(word);
-    if ledger < ledgers::COUNT {
-        ledgers::answer(ledger, rest);
         return;
     }
     if octets::same(word, b"element") {

@@ -1,18 +1,19 @@
 // The tables of actions, by their place in the list of words. The rest of a line is an action and, after a space, what the table
 // is asked of.
-use crate::fields::number_of;
 use crate::hex;
 use octets::byte_at;
 use octets::part_of;
 
-pub const COUNT: usize = 5;
+pub const COUNT: usize = 2;
+
+const STEP: usize = 1;
 
 // The size of an action's code.
 const ACTION: usize = 4;
 
 // The place of a word among those of the tables, or their number.
 pub fn place(word: &[u8]) -> usize {
-    crate::word_place(word, b"pair step takes needs line")
+    crate::word_place(word, b"pair step")
 }
 
 pub fn answer(place: usize, rest: &[u8]) {
@@ -22,20 +23,11 @@ pub fn answer(place: usize, rest: &[u8]) {
         return;
     };
     let asked = part_of(rest, ACTION + 1, rest.len());
-    if place == 1 {
+    if place == STEP {
         say_status(actions::status_after(a, byte_at(asked, 0) % 16));
         return;
     }
-    hex::say_test(holds(place, a, asked));
-}
-
-fn holds(place: usize, a: actions::Action, asked: &[u8]) -> bool {
-    match place {
-        0 => actions::is_pair(a, asked),
-        2 => elements::is_taken(a, (number_of(asked) % 256) as u8),
-        3 => elements::is_needed(a, (number_of(asked) % 256) as u8),
-        _ => actions::writes_line(a),
-    }
+    hex::say_test(actions::is_pair(a, asked));
 }
 
 // A status, or - where no step exists.
