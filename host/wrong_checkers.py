@@ -1,9 +1,10 @@
 """wrong_checkers.py [NAME..]: whether the tests of `compare` can fail.
 
 Each entry of WRONG is a checker with one thing changed. Its tests are run twice: with the wrong checker beside the core, and
-with the wrong checker in the place of both, where only what a test states by itself can notice. Each run has to fail. Works
-on a copy of the project; needs the core's archive and the program dayrun, whose place checkday takes in the second run, without
-the tests that it cannot meet. Not a part of the gate: it takes some minutes.
+with the wrong checker in the place of both, where only what a test states by itself can notice: the stored answers of
+crates/vectors are the wrong checker's too. Each run has to fail. Works on a copy of the project; needs the core's archive and
+the program dayrun, whose place checkday takes in the second run, without the tests that it cannot meet. Not a part of the gate:
+it takes some minutes.
 """
 
 import os
@@ -15,6 +16,7 @@ import sys
 import tempfile
 
 HOST = pathlib.Path(__file__).resolve().parent
+VECTORS = "crates/vectors"
 
 # name, file of checker/src, text, wrong text
 WRONG = [
@@ -77,7 +79,7 @@ def copied(top):
     (top / "target").mkdir()
     for name in ("staticlib", "bin"):
         (top / "target" / name).symlink_to(HOST.parent / "target" / name)
-    for name in ("include", "crates/vectors", "crates/dayrun", "days"):
+    for name in ("include", VECTORS, "crates/dayrun", "days"):
         shutil.copytree(HOST.parent / name, top / name)
     return shutil.copytree(HOST, top / "host", ignore=shutil.ignore_patterns("target"))
 
@@ -92,12 +94,20 @@ def cargo(host, arguments, last=(), **more):
     return ended.stdout
 
 
+def write_answers(host):
+    """Writes the stored answers of the table anew: those of this checker."""
+    table = host.parent / VECTORS
+    with open(table / "stdin") as questions, open(table / "stdout", "w") as answers:
+        subprocess.run([host / "target/release/checktable"], stdin=questions, stdout=answers, check=True)
+
+
 def failing(host, alone):
     """The tests that fail, up to the first file of tests that has one; alone: checkday takes the place of dayrun."""
     more = {}
     skipped = []
     if alone:
-        cargo(host, ["build", "-p", "checker", "--bin", "checkday"])
+        cargo(host, ["build", "-p", "checker", "--bins"])
+        write_answers(host)
         more["DAYRUN"] = str(host / "target/release/checkday")
         skipped = ["--", *("--skip=" + name for name in NOT_CHECKDAY)]
     printed = cargo(host, ["test", "-p", "compare", "--tests"], skipped, **more)
@@ -113,6 +123,7 @@ def both_ways(host):
         changed(judge, *call)
     yield "in the place of both", failing(host, True)
     judge.write_text(apart, encoding="utf-8")
+    shutil.copy(HOST.parent / VECTORS / "stdout", host.parent / VECTORS)
 
 
 def main(names):

@@ -1,8 +1,8 @@
 //! A plain checker of swap data messages, written to be read beside
-//! document 01 (messages, ledger, tape). Document 000 gives Appendix F.
+//! docs/SPECIFICATION.md (messages, ledger, tape).
 //!
-//! The section or the rule of document 01 is named at each function; "rule"
-//! means an entry of its "Verdict numbers, in checking order".
+//! The section or the rule of the specification is named at each function;
+//! "rule" means an entry of its section "Verdicts", by number.
 //!
 //! Judging takes no memory from the heap and never panics, whatever the bytes.
 
@@ -20,6 +20,7 @@ mod message;
 mod price;
 mod rules;
 pub mod sizes;
+pub mod table;
 
 pub use amounts::{is_cap, masked};
 pub use elements::LAST_CODE;

@@ -1,5 +1,5 @@
-//! Sections "Verdict numbers, in checking order" and "Statuses": each rule a
-//! function that passes, perhaps with what it has read, or refuses.
+//! Sections "Verdicts" and "Actions, events and statuses": each rule a function
+//! that passes, perhaps with what it has read, or refuses.
 
 use crate::amounts::is_cap;
 use crate::elements::{
@@ -171,8 +171,9 @@ pub fn rule_15_not_admitted(row: Option<Row>, action: Action) -> Judged<u8> {
     status_after(action, status).ok_or(refusal(15))
 }
 
-/// Section "Statuses": the status after an action. "No other step exists."
-fn status_after(action: Action, status: u8) -> Option<u8> {
+/// Section "Actions, events and statuses": the status after an action; None
+/// where there is no such step.
+pub fn status_after(action: Action, status: u8) -> Option<u8> {
     match (action, status) {
         (Action::Newt, UNKNOWN) => Some(LIVE),
         (Action::Modi, LIVE) => Some(LIVE),
