@@ -1,4 +1,4 @@
-//! Section "Elements": the forms of the values. Text is ASCII.
+//! Section "Forms of values". Text is ASCII.
 
 use crate::sizes::{DATE, UTI};
 

@@ -1,4 +1,4 @@
-//! The sizes, offsets and limits of document 01, in bytes. A field stands
+//! The sizes, offsets and limits of the specification, in bytes. A field stands
 //! where the one before it ends.
 
 /// Section "The ledger": "or 100,000 where that is less".
@@ -103,7 +103,7 @@ pub const fn ledger_size(rows: usize) -> usize {
 /// Header and one row; rules 1 and 3 ask for as much.
 pub const SHORTEST_LEDGER: usize = ledger_size(1);
 
-/// The numbers that document 01 writes out.
+/// The numbers that the specification writes out.
 #[cfg(test)]
 mod tests {
     use super::*;

@@ -36,7 +36,7 @@ fn the_whole_table() {
 }
 
 #[test]
-fn pairs_named_in_document_01() {
+fn pairs_named_in_the_specification() {
     assert!(is_pair(b"NEWT", Some(b"TRAD")));
     assert!(is_pair(b"MODI", Some(b"TRAD")));
     assert!(is_pair(b"TERM", Some(b"ETRM")));
