@@ -1,4 +1,4 @@
-//! Section "The masked notional".
+//! Section 6: the masked notional.
 //!
 //! Amounts are held exactly, as a count of hundred-thousandths in a u128: an
 //! amount has at most 25 digits, so the count is below 10 to the 30th, and a
@@ -22,10 +22,10 @@ const BANDS: [(u64, u64); 8] = [
     (100_000_000_000, 1_000_000_000),
 ];
 
-/// "from there nearest 50 billion"
+/// The step of amounts behind the last band with an end.
 const LAST_STEP: u64 = 50_000_000_000;
 
-/// "never shown below 5"
+/// Clause 6.2.
 const LEAST_SHOWN: u128 = 5;
 
 const SMALLEST_CAP: u64 = 1_000;
@@ -46,8 +46,7 @@ pub fn masked(amount: &[u8], cap: u64) -> Option<(u64, bool)> {
 /// The same for bytes already found to be an amount.
 pub fn masked_amount(amount: &[u8], cap: u64) -> (u64, bool) {
     let exact = exact(amount);
-    // "An amount above its cap shows the cap and a plus sign." The exact
-    // amount is compared, not the rounded one.
+    // The exact amount is compared with the cap, not the rounded one (6.4).
     if exact > u128::from(cap) * PARTS {
         return (cap, true);
     }
@@ -76,7 +75,7 @@ fn exact(amount: &[u8]) -> u128 {
 /// The rounded amount, in units, of an exact amount in hundred-thousandths.
 fn rounded(exact: u128) -> u128 {
     let step = u128::from(step(exact));
-    // "A tie goes up." Half of a step is a whole count of hundred-thousandths.
+    // Halfway goes up. Half of a step is a whole count of hundred-thousandths.
     let steps = (exact + step * PARTS / 2) / (step * PARTS);
     (steps * step).max(LEAST_SHOWN)
 }

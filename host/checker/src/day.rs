@@ -1,12 +1,12 @@
-//! Section "The day run": the whole output for a whole day's input.
+//! Section 11, the day run: the whole output for a whole day's input.
 
 use crate::judge::{open, submit};
 use crate::rules::Answer;
 use crate::sizes::{self, line, DAY_ROWS, LONGEST_MESSAGE};
 
-/// "with all caps at 250,000,000"
+/// The caps of the day's ledger (11.1).
 const CAPS: [u64; 5] = [250_000_000; 5];
-/// "a line of the four words shown below"
+/// The first line of the report (11.5).
 const HEADING: &[u8] = b"message verdict element record\n";
 
 /// What the day run writes for this input.
@@ -35,7 +35,7 @@ enum Next<'a> {
     Cut,
 }
 
-/// "messages each led by a u16 length"
+/// The message at the front of the input, behind its length (11.2).
 fn next(input: &[u8]) -> Next<'_> {
     match input {
         [] => Next::End,
@@ -73,8 +73,7 @@ impl Day {
         }
     }
 
-    /// "Then one line a message: position from 1, verdict, element, identifier
-    /// given or 0."
+    /// The report's line for a message (11.6).
     fn take(&mut self, message: &[u8]) {
         let answer = self.judge(message);
         self.judged += 1;
@@ -92,8 +91,7 @@ impl Day {
         self.output.extend(line.as_bytes());
     }
 
-    /// "It passes over the bytes of one longer than" the longest message "and
-    /// reports 5".
+    /// A message that is too long is not submitted; its verdict is 5 (11.3).
     fn judge(&mut self, message: &[u8]) -> Answer {
         if message.len() > LONGEST_MESSAGE {
             return Answer {
@@ -104,7 +102,7 @@ impl Day {
         submit(&mut self.ledger, &mut self.tape, message)
     }
 
-    /// The last line: "then messages judged, then lines published".
+    /// The last line of the report (11.7).
     fn close(mut self, word: &str) -> Vec<u8> {
         let line = format!("{word} {} {}\n", self.judged, self.published);
         self.output.extend(line.as_bytes());

@@ -1,4 +1,4 @@
-//! Section "Elements": the table of codes, and the seven actions.
+//! Section 3, elements: the table of codes; and the seven actions.
 
 use crate::forms::{
     is_allocation, is_asset_class, is_capitals, is_cleared, is_date, is_lei, is_notation,
@@ -35,10 +35,10 @@ pub const COUNTERPARTY_1: u16 = 23;
 pub const COUNTERPARTY_2: u16 = 24;
 pub const ASSET_CLASS: u16 = 25;
 
-/// "TERM, EROR and PRTO take codes 1 to 5 only."
+/// The last code that a short message may have (3.1).
 pub const LAST_SHORT: u16 = 5;
 
-/// Column "Needed". "By pair" is rule 10, the "if" entries are rule 11.
+/// The column needed. By pair is rule 10, a condition is rule 11.
 #[derive(Clone, Copy, PartialEq, Eq)]
 pub enum Needed {
     All,
@@ -62,22 +62,22 @@ pub fn needed(code: u16) -> Needed {
     }
 }
 
-/// "if Cleared is N": the condition of code 11.
+/// The condition of code 11: 10 is N.
 pub fn is_not_cleared(values: &Values) -> bool {
     values.get(CLEARED) == Some(b"N")
 }
 
-/// "if 15 is true": the condition of codes 16, 17 and 18.
+/// The condition of codes 16, 17 and 18: 15 is true.
 pub fn is_package(values: &Values) -> bool {
     values.get(PACKAGE_INDICATOR).is_some_and(is_true)
 }
 
-/// "if 15 is true and 18 is 1": the condition of code 19.
+/// The condition of code 19: 15 is true and 18 is 1.
 pub fn has_price_currency(values: &Values) -> bool {
     is_package(values) && values.get(PRICE_NOTATION) == Some(b"1")
 }
 
-/// Column "Needed", the "if" entries: the condition of a code is met.
+/// A code has a condition, and it holds (3.3).
 pub fn is_due(code: u16, values: &Values) -> bool {
     match code {
         NON_STANDARDIZED_TERM => is_not_cleared(values),
@@ -87,7 +87,7 @@ pub fn is_due(code: u16, values: &Values) -> bool {
     }
 }
 
-/// Column "Form". The action's form is rule 6 and is asked there.
+/// The column form. The action's form is rule 6 and is asked there.
 pub fn has_form(code: u16, v: &[u8]) -> bool {
     match code {
         UTI => is_uti(v),
@@ -125,7 +125,7 @@ pub enum Action {
 }
 
 impl Action {
-    /// "Codes are matched byte for byte; TERM is not term."
+    /// Byte for byte (1.3).
     pub fn read(v: &[u8]) -> Option<Action> {
         match v {
             b"NEWT" => Some(Action::Newt),
@@ -139,7 +139,7 @@ impl Action {
         }
     }
 
-    /// "Full" means messages whose action is NEWT, MODI, CORR or REVI.
+    /// Messages of these actions are full.
     pub fn is_full(self) -> bool {
         matches!(
             self,
@@ -147,7 +147,7 @@ impl Action {
         )
     }
 
-    /// "every accepted message but PRTO writes one" (a tape line)
+    /// Clause 7.6.
     pub fn writes_line(self) -> bool {
         self != Action::Prto
     }

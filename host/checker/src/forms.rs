@@ -1,4 +1,4 @@
-//! Section "Forms of values". Text is ASCII.
+//! Section 4: the forms of values. Text is ASCII.
 
 use crate::sizes::{DATE, UTI};
 

@@ -35,8 +35,8 @@ pub fn submit(ledger: &mut [u8], tape: &mut [u8], message: &[u8]) -> Answer {
     }
 }
 
-/// Asks the status of one swap: "answers 3, then 9 with element 1, then 14,
-/// else the status, 0 for an unknown swap, and the last identifier".
+/// Asks the status of one swap (10.6): rules 3, 9 and 14, then status and last
+/// identifier.
 pub fn status(ledger: &[u8], uti: &[u8]) -> Answer {
     match ask(ledger, uti) {
         Ok(answer) | Err(answer) => answer,
@@ -98,8 +98,8 @@ fn judge<'a>(ledger: &[u8], tape: &[u8], message: &'a [u8]) -> Judged<Accepted<'
     })
 }
 
-/// Writes what sections "The ledger" and "The tape line" name for an accepted
-/// message. No rule is left that could refuse.
+/// Writes what sections 7 and 8 say of an accepted message. No rule is left
+/// that could refuse.
 fn carry_out(ledger: &mut [u8], tape: &mut [u8], accepted: &Accepted) -> Answer {
     let Accepted {
         header,
@@ -122,7 +122,7 @@ fn carry_out(ledger: &mut [u8], tape: &mut [u8], accepted: &Accepted) -> Answer 
         }
         (Action::Term | Action::Eror, Some((place, _))) => {
             end_row(ledger, place, *new_status, lead.identifier);
-            // "TERM and EROR show the stored terms."
+            // The stored terms are shown (7.5).
             write_line(tape, &lead, row_at(ledger, place).terms());
         }
         (_, Some((place, _))) => {

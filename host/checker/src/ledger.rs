@@ -1,9 +1,9 @@
-//! Section "The ledger".
+//! Section 8: the ledger.
 
 use crate::amounts::is_cap;
 use crate::sizes::{self, header, row, LARGEST_CAPACITY, SHORTEST_LEDGER, TERMS, TIME};
 
-/// "next identifier, 1 to 1,000,000,000,000"; no line takes the last one.
+/// The greatest next identifier; no line takes it.
 pub const IDENTIFIER_LIMIT: u64 = 1_000_000_000_000;
 
 pub const UNKNOWN: u8 = 0;
@@ -25,14 +25,12 @@ pub fn is_long_enough(ledger: &[u8]) -> bool {
     ledger.len() >= SHORTEST_LEDGER
 }
 
-/// The length without the header "divided by" the row size, "rounded down, or
-/// 100,000 where that is less".
+/// The whole rows behind the header, up to the largest capacity (8.2).
 fn capacity(length: usize) -> u32 {
     (length.saturating_sub(header::SIZE) / row::SIZE).min(LARGEST_CAPACITY) as u32
 }
 
-/// "Opening writes the header, with 0 rows in use and next identifier 1, and
-/// no other byte." The ledger is long enough.
+/// What opening writes (8.5). The ledger is long enough.
 pub fn write_header(ledger: &mut [u8], caps: &[u64; sizes::CAPS]) {
     let capacity = capacity(ledger.len());
     put(ledger, header::ROWS, &0u32.to_le_bytes());
@@ -100,7 +98,7 @@ impl<'a> Row<'a> {
         &self.terms()[..TIME]
     }
 
-    /// "equal length and that many equal UTI bytes"; the UTI has its form.
+    /// Length and so many bytes are equal (8.4); the UTI has its form.
     fn is_of(self, uti: &[u8]) -> bool {
         usize::from(self.bytes[row::UTI_LENGTH]) == uti.len()
             && &self.bytes[row::UTI..][..uti.len()] == uti
@@ -129,7 +127,7 @@ fn row_mut(ledger: &mut [u8], place: usize) -> &mut [u8] {
     &mut ledger[sizes::ledger_size(place)..][..row::SIZE]
 }
 
-/// "NEWT writes the whole next row and raises rows in use by one."
+/// NEWT: the row behind those in use, and one more in use (8.6).
 pub fn add_row(
     ledger: &mut [u8],
     header: &Header,
@@ -175,7 +173,7 @@ pub fn port_row(ledger: &mut [u8], place: usize, status: u8) {
     row_mut(ledger, place)[row::STATUS] = status;
 }
 
-/// "Each line takes the header's next identifier, which then rises by one."
+/// After a line the next identifier is 1 greater (8.7).
 pub fn raise_next_identifier(ledger: &mut [u8], header: &Header) {
     let next = header.next_identifier + 1;
     put(ledger, header::NEXT_IDENTIFIER, &next.to_le_bytes());

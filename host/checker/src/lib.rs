@@ -1,8 +1,6 @@
-//! A plain checker of swap data messages, written to be read beside
-//! docs/SPECIFICATION.md (messages, ledger, tape).
-//!
-//! The section or the rule of the specification is named at each function;
-//! "rule" means an entry of its section "Verdicts", by number.
+//! A plain checker of swap data messages, to be read beside
+//! docs/SPECIFICATION.md. Sections, clauses (8.4) and rules, which are its
+//! verdicts, are those of that document.
 //!
 //! Judging takes no memory from the heap and never panics, whatever the bytes.
 

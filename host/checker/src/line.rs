@@ -1,4 +1,4 @@
-//! Section "The tape line".
+//! Section 7: the tape line.
 
 use crate::amounts::masked_amount;
 use crate::elements::{
@@ -15,7 +15,7 @@ use crate::sizes::{self, line, TERMS};
 /// What a full message's elements and the caps put into a line from the
 /// execution time up to the newline. The message has passed rules 5 to 12.
 /// Offsets are the line's.
-/// "What is missing or left out is spaces."
+/// A field without a value has spaces (7.3).
 pub fn masked_terms(values: &Values, caps: &[u64; 5]) -> [u8; TERMS] {
     let mut terms = [b' '; TERMS];
     let mut put = |offset: usize, part: &[u8]| {
@@ -50,7 +50,7 @@ pub fn masked_terms(values: &Values, caps: &[u64; 5]) -> [u8; TERMS] {
         put(line::PLUS, b"+");
     }
     put(line::NOTIONAL_CURRENCY, values.present(NOTIONAL_CURRENCY));
-    // "Code 22 is shown where it is sent."
+    // It has no condition (3.5).
     put(line::LOCATION, values.present(SETTLEMENT_LOCATION));
     terms
 }
@@ -65,8 +65,8 @@ pub struct Lead<'a> {
     pub event_time: &'a [u8],
 }
 
-/// A line takes the first bytes "of the tape buffer; later bytes stay."
-/// The buffer is long enough (rule 4).
+/// Writes a line to the front of the tape buffer (7.7), which is long enough
+/// (rule 4).
 pub fn write_line(tape: &mut [u8], lead: &Lead, terms: &[u8]) {
     let line = &mut tape[..line::SIZE];
     line.fill(b' ');
@@ -87,7 +87,7 @@ pub fn write_line(tape: &mut [u8], lead: &Lead, terms: &[u8]) {
     put(line::NEWLINE, b"\n");
 }
 
-/// "The tape shows T or F."
+/// A truth as a line shows it (4.6).
 fn truth(v: &[u8]) -> &'static [u8] {
     if is_true(v) {
         b"T"

@@ -1,4 +1,4 @@
-//! The matrix in Appendix F of document 000, for the seven actions.
+//! The matrix of events (5.3), from Appendix F of the CFTC's specification.
 //!
 //! In the extracted text the heading "Update (UPDT)" stands one column too far
 //! right and "No Event type required" one too far left. Footnote 128 (on

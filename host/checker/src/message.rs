@@ -1,4 +1,4 @@
-//! Section "The message".
+//! Section 2: the message.
 
 use crate::elements::LAST_CODE;
 use crate::sizes::{COUNT, ENTRY, LONGEST_MESSAGE, U16};
@@ -14,36 +14,36 @@ impl<'a> Values<'a> {
         if message.len() > LONGEST_MESSAGE {
             return None;
         }
-        // "a u16 count n", from 0 to the last code
+        // 2.1
         let count = u16_at(message, 0)?;
         if count > LAST_CODE {
             return None;
         }
         let mut by_code = [None; LAST_CODE as usize + 1];
-        // "With n = 0 the message is 2 bytes."
+        // 2.5
         if count == 0 {
             return (message.len() == COUNT).then_some(Values { by_code });
         }
         let (mut code, mut start) = entry(message, 0)?;
-        // "The first offset is 2 + 4 times n."
+        // 2.3: the first offset
         if !is_code(code) || start != COUNT + ENTRY * usize::from(count) || start >= message.len() {
             return None;
         }
         for i in 1..usize::from(count) {
             let (next_code, next_start) = entry(message, i)?;
-            // Codes lie in 1 to the last "and rise strictly."
+            // 2.2
             if !is_code(next_code) || next_code <= code {
                 return None;
             }
-            // "Offsets rise strictly and each is below the message's length."
+            // 2.3: the other offsets
             if next_start <= start || next_start >= message.len() {
                 return None;
             }
-            // "A value runs to the next offset"
+            // 2.4: up to the next value
             by_code[usize::from(code)] = message.get(start..next_start);
             (code, start) = (next_code, next_start);
         }
-        // "the last one to the end"
+        // 2.4: up to the end
         by_code[usize::from(code)] = message.get(start..);
         Some(Values { by_code })
     }

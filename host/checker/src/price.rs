@@ -22,7 +22,7 @@ pub fn shown(v: &[u8]) -> ([u8; PRICE], usize) {
     let (before, after) = split_at_point(without_minus(v));
     let before = without_leading_zeros(before);
     let after = without_trailing_zeros(after.unwrap_or(&[]));
-    // "the minus of zero" is dropped
+    // zero has no minus
     let is_zero = before.is_empty() && after.is_empty();
 
     let mut field = [b' '; PRICE];
@@ -30,12 +30,12 @@ pub fn shown(v: &[u8]) -> ([u8; PRICE], usize) {
     if v.starts_with(b"-") && !is_zero {
         append(&mut field, &mut length, b"-");
     }
-    // "one zero remains before a point"; so does the zero of a whole price
+    // one digit stays before the point, and of a whole price too
     if before.is_empty() {
         append(&mut field, &mut length, b"0");
     }
     append(&mut field, &mut length, before);
-    // "a bare point" is dropped
+    // no point without decimals
     if !after.is_empty() {
         append(&mut field, &mut length, b".");
         append(&mut field, &mut length, after);

@@ -1,4 +1,4 @@
-//! Sections "Verdicts" and "Actions, events and statuses": each rule a function
+//! Section 9, verdicts, and the statuses of section 5: each rule a function
 //! that passes, perhaps with what it has read, or refuses.
 
 use crate::amounts::is_cap;
@@ -28,7 +28,7 @@ pub struct Answer {
 /// A rule passes, perhaps with what it has read, or refuses with an answer.
 pub type Judged<T> = Result<T, Answer>;
 
-/// A refusal: "elsewhere the element is 0".
+/// A refusal that names no element.
 fn refusal(verdict: u8) -> Answer {
     refusal_at(verdict, 0)
 }
@@ -112,8 +112,8 @@ pub fn rule_8_element_not_taken(values: &Values, action: Action) -> Judged<()> {
     })
 }
 
-/// 9. A value breaks its form. An element whose "if" is not met is read for
-///    its form too.
+/// 9. A value breaks its form, also that of an element whose condition does
+///    not hold.
 pub fn rule_9_form_broken(values: &Values) -> Judged<()> {
     refuse_lowest(9, |code| {
         values.get(code).is_some_and(|v| !has_form(code, v))
@@ -127,7 +127,7 @@ pub fn rule_10_not_a_pair(values: &Values) -> Judged<()> {
 }
 
 /// 11. A conditional element is missing. (TERM, EROR and PRTO have neither
-///     code 10 nor 15 after rule 8, so no "if" is met.)
+///     code 10 nor 15 after rule 8, so no condition holds.)
 pub fn rule_11_conditional_missing(values: &Values) -> Judged<()> {
     refuse_lowest(11, |code| {
         is_due(code, values) && values.get(code).is_none()
@@ -171,7 +171,7 @@ pub fn rule_15_not_admitted(row: Option<Row>, action: Action) -> Judged<u8> {
     status_after(action, status).ok_or(refusal(15))
 }
 
-/// Section "Actions, events and statuses": the status after an action; None
+/// The status after an action (5.2); None
 /// where there is no such step.
 pub fn status_after(action: Action, status: u8) -> Option<u8> {
     match (action, status) {

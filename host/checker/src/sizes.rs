@@ -1,11 +1,11 @@
 //! The sizes, offsets and limits of the specification, in bytes. A field stands
 //! where the one before it ends.
 
-/// Section "The ledger": "or 100,000 where that is less".
+/// Clause 8.2.
 pub const LARGEST_CAPACITY: usize = 100_000;
-/// "The longest message is 2,048 bytes."
+/// Clause 2.6.
 pub const LONGEST_MESSAGE: usize = 2_048;
-/// Section "The day run": "opens 400 rows".
+/// Clause 11.1.
 pub const DAY_ROWS: usize = 400;
 
 pub const U16: usize = 2;
@@ -35,7 +35,7 @@ pub const NOTIONAL: usize = 16;
 /// The caps: one for each asset class.
 pub const CAPS: usize = 5;
 
-/// Section "The tape line": offsets.
+/// Section 7: offsets.
 pub mod line {
     use super::{ASSET_CLASS, CURRENCY, DATE, TIME, WORD};
 
@@ -71,7 +71,7 @@ pub mod line {
 /// Bytes of the masked terms.
 pub const TERMS: usize = line::TERMS_END - line::TERMS;
 
-/// Section "The ledger": offsets in the header.
+/// Clause 8.1: offsets in the header.
 pub mod header {
     use super::{U32, U64};
 
@@ -84,7 +84,7 @@ pub mod header {
     pub const SIZE: usize = CAPACITY + U32;
 }
 
-/// Section "The ledger": offsets in a row.
+/// Clause 8.3: offsets in a row.
 pub mod row {
     pub const STATUS: usize = 0;
     pub const UTI_LENGTH: usize = STATUS + 1;

@@ -32,7 +32,7 @@ fn newt_of(swap: usize) -> Vec<u8> {
 }
 
 #[test]
-fn the_example_of_the_paper() {
+fn the_example_of_the_specification() {
     let due = b"message verdict element record\n1 6 2 0\nend 1 0\n";
     assert_eq!(report(&[0x02, 0x00, 0x00, 0x00]), due);
 }

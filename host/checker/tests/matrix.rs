@@ -1,4 +1,4 @@
-//! Appendix F of document 000.
+//! The matrix of events, Appendix F of the CFTC's specification.
 
 use checker::is_pair;
 
@@ -86,7 +86,7 @@ fn codes_are_matched_byte_for_byte() {
     assert!(!is_pair(b"NEWT", Some(b"TRADE")));
     assert!(!is_pair(b"NEWT ", Some(b"TRAD")));
     assert!(!is_pair(b"", None));
-    // Actions of document 000 that are not among the seven.
+    // Actions of the CFTC that are not among the seven.
     assert!(!is_pair(b"VALU", None));
     assert!(!is_pair(b"MARU", None));
 }
