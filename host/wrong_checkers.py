@@ -134,6 +134,7 @@ def main(names):
         sys.exit("the program dayrun is missing: make it with rt check dayrun")
     with tempfile.TemporaryDirectory() as folder:
         host = copied(pathlib.Path(folder))
+        print("the right checker, whose tests have to pass", flush=True)
         for way, found in both_ways(host):
             if found:
                 sys.exit("the right checker, %s: %s" % (way, ", ".join(found)))

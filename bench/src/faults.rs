@@ -1,7 +1,9 @@
 //! Messages with one fault, which the rules 5 to 13 refuse.
 
 use crate::messages::set_package;
-use compare::message::{Message, COUNT_SIZE, ENTRY_SIZE, LAST_CODE};
+use compare::layout::{COUNT_SIZE, ENTRY_SIZE};
+use compare::lists::LAST_CODE;
+use compare::message::Message;
 use compare::random::Random;
 
 /// Where the first entry's offset and the second entry's code stand.

@@ -1,9 +1,10 @@
 //! Sound messages: those that break none of the rules 5 to 13.
 
+use compare::lists::TRUTHS;
 use compare::matrix::{events_of, is_full};
 use compare::message::Message;
 use compare::random::Random;
-use compare::values::{lei, CAPITALS_DIGITS, TRUTHS};
+use compare::values::{lei, CAPITALS_DIGITS};
 
 /// The day on which the messages are sent; swaps were executed this month.
 const MONTH: &str = "2026-03";
@@ -18,7 +19,7 @@ const CLASSES: [&str; 8] = ["CR", "IR", "IR", "FX", "EQ", "CO", "CO", "CO"];
 pub fn sound(random: &mut Random, action: &str, uti: &str, execution: &str) -> Message {
     let mut message = Message::default();
     message.set(1, uti).set(2, action);
-    if let Some(event) = random.pick(events_of(action)) {
+    if let Some(event) = random.pick(&events_of(action)) {
         message.set(3, event);
     }
     message.set(4, time_this_evening(random));

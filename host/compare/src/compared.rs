@@ -2,10 +2,11 @@
 
 use crate::guarded::Guarded;
 use crate::judge::{Judge, BOTH};
-use crate::layout::{self, LINE_SIZE};
+use crate::layout::{self, Caps, LINE_SIZE};
 use crate::message::described;
+use crate::order::NAMING_AN_ELEMENT;
 use crate::tally::Tally;
-use sdr::Answer;
+use sdr::{Answer, ACCEPTED};
 use std::fmt;
 
 /// What one judge is lent.
@@ -74,6 +75,16 @@ impl Compared {
         }
     }
 
+    /// A ledger just opened, with so many rows, and a tape buffer of a line,
+    /// for the core and the checker. Neither was empty before.
+    pub fn opened(rows: usize, caps: &Caps) -> Self {
+        let mut compared = Compared::new();
+        compared.set_ledger(&vec![0xee; layout::ledger_size(rows)]);
+        compared.set_tape(&[b'x'; LINE_SIZE]);
+        assert_eq!(compared.open(caps).verdict, ACCEPTED);
+        compared
+    }
+
     /// Gives every side this ledger.
     pub fn set_ledger(&mut self, ledger: &[u8]) {
         self.sides
@@ -97,7 +108,7 @@ impl Compared {
     }
 
     /// Opens the ledger; panics on a mismatch.
-    pub fn open(&mut self, caps: &[u64; 5]) -> Answer {
+    pub fn open(&mut self, caps: &Caps) -> Answer {
         agreed(self.try_open(caps))
     }
 
@@ -112,7 +123,7 @@ impl Compared {
     }
 
     /// Opens the ledger and compares.
-    pub fn try_open(&mut self, caps: &[u64; 5]) -> Agreed {
+    pub fn try_open(&mut self, caps: &Caps) -> Agreed {
         let call = |side: &mut Side| side.judge.open(side.ledger.bytes_mut(), caps);
         let answer = self.call(&[], call)?;
         self.tally.opening(answer);
@@ -202,13 +213,13 @@ impl Compared {
     }
 
     /// A refusal changes nothing, answers no identifier and no status; an
-    /// element is named only under 6, 7, 8, 9 and 11.
+    /// element is named only under the rules that name one.
     fn wrong_refusal(&self, answer: Answer) -> Option<&'static str> {
-        let names = matches!(answer.verdict, 6 | 7 | 8 | 9 | 11);
+        let names = NAMING_AN_ELEMENT.contains(&answer.verdict);
         if (answer.element != 0) != names {
             return Some("an element is named wrongly");
         }
-        if answer.verdict == 0 {
+        if answer.verdict == ACCEPTED {
             return None;
         }
         if answer.identifier != 0 || answer.status != 0 {
@@ -264,7 +275,7 @@ fn difference(first: &[u8], second: &[u8]) -> Option<(usize, u8, u8)> {
 
 #[cfg(test)]
 mod tests {
-    use super::{Answer, Compared, Judge};
+    use super::{Answer, Caps, Compared, Judge};
     use crate::layout::{ledger_size, LINE_SIZE};
 
     /// A byte of the second row.
@@ -280,7 +291,7 @@ mod tests {
             "told"
         }
 
-        fn open(&self, ledger: &mut [u8], _: &[u64; 5]) -> Answer {
+        fn open(&self, ledger: &mut [u8], _: &Caps) -> Answer {
             self.0(ledger, &mut [0; TAPE])
         }
 

@@ -1,12 +1,17 @@
 //! Life cycles of swaps, and a model that says what each step has to do.
 
-use crate::layout::{Header, Row, EXECUTION_IN_TERMS, IDENTIFIER_LIMIT, LINE_SIZE, TERMS_SIZE};
-use crate::matrix::{self, is_full, ACTIONS, EVENTS};
+use crate::layout::{Caps, Header, Row, EXECUTION_IN_TERMS, IDENTIFIER_LIMIT, LINE_SIZE};
+use crate::layout::{TERMS_SIZE, WORD_SIZE};
+use crate::lists::{ACTIONS, ACTION_TYPE, EVENTS, EVENT_TYPE, EXECUTION_TIMESTAMP, UTI};
+use crate::matrix::{self, is_full, repeats_execution};
 use crate::message::Message;
+use crate::order;
 use crate::random::Random;
 use crate::sound;
 use crate::terms::{line_of, terms_of};
 use crate::values;
+use sdr::{ACCEPTED, IDENTIFIERS_SPENT, LEDGER_FULL, UNKNOWN};
+use sdr::{NOT_ADMITTED, NOT_A_PAIR, OTHER_TIME, TAPE_SHORT};
 
 /// What a submission has to answer and to write.
 pub struct Due {
@@ -23,7 +28,7 @@ pub struct Model {
 
 impl Model {
     /// The ledger of a length after opening.
-    pub fn opened(length: usize, caps: [u64; 5]) -> Self {
+    pub fn opened(length: usize, caps: Caps) -> Self {
         Model {
             header: Header::opened(length, caps),
             rows: Vec::new(),
@@ -37,7 +42,7 @@ impl Model {
 
     /// The swap's status.
     pub fn status(&self, uti: &[u8]) -> u8 {
-        self.row(uti).map_or(0, |row| self.rows[row].status)
+        self.row(uti).map_or(UNKNOWN, |row| self.rows[row].status)
     }
 
     /// The swap's last identifier.
@@ -45,11 +50,11 @@ impl Model {
         self.row(uti).map_or(0, |row| self.rows[row].identifier)
     }
 
-    /// Takes a step with a tape buffer of a length and a message that breaks
-    /// none of the rules 5 to 9 and 11 to 13.
+    /// Takes a step with a tape buffer of a length. Of the rules that look at
+    /// the message alone, it may break that of the matrix.
     pub fn submit(&mut self, message: &Message, tape_length: usize) -> Due {
         let verdict = self.verdict(message, tape_length);
-        if verdict != 0 {
+        if verdict != ACCEPTED {
             return Due {
                 verdict,
                 identifier: 0,
@@ -60,47 +65,51 @@ impl Model {
     }
 
     fn verdict(&self, message: &Message, tape_length: usize) -> u8 {
-        let action = text(message.value(2));
-        let event = message.get(3).map(text);
-        let uti = message.value(1);
+        let (action, event) = (message.text(ACTION_TYPE), message.text(EVENT_TYPE));
+        let event = message.has(EVENT_TYPE).then_some(event.as_str());
+        let uti = message.value(UTI);
         let row = self.row(uti).map(|row| &self.rows[row]);
-        let repeats = matches!(action, "MODI" | "REVI");
-        if tape_length < LINE_SIZE {
-            4
-        } else if !matrix::is_pair(action, event) {
-            10
-        } else if matrix::status_after(action, self.status(uti)).is_none() {
-            15
-        } else if repeats
-            && row.is_some_and(|row| row.terms[EXECUTION_IN_TERMS] != *message.value(6))
-        {
-            16
-        } else if action == "NEWT" && self.header.rows == self.header.capacity {
-            17
-        } else if matrix::writes_line(action) && self.header.next == IDENTIFIER_LIMIT {
-            18
-        } else {
-            0
-        }
+        let other_time =
+            |row: &Row| row.terms[EXECUTION_IN_TERMS] != *message.value(EXECUTION_TIMESTAMP);
+        let spent = self.header.next == IDENTIFIER_LIMIT;
+        let rules = [
+            (TAPE_SHORT, tape_length < LINE_SIZE),
+            (NOT_A_PAIR, !matrix::is_pair(&action, event)),
+            (
+                NOT_ADMITTED,
+                matrix::status_after(&action, self.status(uti)).is_none(),
+            ),
+            (
+                OTHER_TIME,
+                repeats_execution(&action) && row.is_some_and(other_time),
+            ),
+            (
+                LEDGER_FULL,
+                action == "NEWT" && self.header.rows == self.header.capacity,
+            ),
+            (IDENTIFIERS_SPENT, matrix::writes_line(&action) && spent),
+        ];
+        let broken = rules.into_iter().filter(|(_, broken)| *broken);
+        order::first_of(&broken.map(|(rule, _)| rule).collect::<Vec<u8>>())
     }
 
     fn accept(&mut self, message: &Message) -> Due {
-        let action = text(message.value(2));
-        let uti = message.value(1);
+        let action = message.text(ACTION_TYPE);
+        let uti = message.value(UTI);
         let known = self.row(uti);
         let previous = known.map(|row| self.rows[row].identifier);
         let row = known.unwrap_or_else(|| self.add_row(uti));
         let next = self.header.next;
         let row = &mut self.rows[row];
         if known.is_some() {
-            row.status = matrix::status_after(action, row.status).expect("the step was admitted");
+            row.status = matrix::status_after(&action, row.status).expect("the step was admitted");
         }
-        if is_full(action) {
+        if is_full(&action) {
             row.terms = terms_of(message, &self.header.caps);
         }
-        if !matrix::writes_line(action) {
+        if !matrix::writes_line(&action) {
             return Due {
-                verdict: 0,
+                verdict: ACCEPTED,
                 identifier: 0,
                 line: None,
             };
@@ -108,7 +117,7 @@ impl Model {
         row.identifier = next;
         self.header.next += 1;
         Due {
-            verdict: 0,
+            verdict: ACCEPTED,
             identifier: next,
             line: Some(line_of(message, next, previous, &row.terms)),
         }
@@ -119,10 +128,6 @@ impl Model {
         self.header.rows += 1;
         self.rows.len() - 1
     }
-}
-
-fn text(value: &[u8]) -> &str {
-    std::str::from_utf8(value).expect("actions and events are ASCII")
 }
 
 /// A message for the next step: most often one that the swap's status admits.
@@ -155,19 +160,19 @@ fn next_action(random: &mut Random, status: u8) -> &'static str {
     }
 }
 
-/// MODI and REVI repeat the stored execution time, most often.
+/// Repeats the stored execution time where the action has to, most often.
 fn repeat_execution(random: &mut Random, message: &mut Message, action: &str, row: &Row) {
-    let repeats = matches!(action, "MODI" | "REVI") && !random.once_in(12);
+    let repeats = repeats_execution(action) && !random.once_in(12);
     if repeats || (action == "CORR" && random.once_in(2)) {
         sound::set_execution(random, message, &row.terms[EXECUTION_IN_TERMS]);
     }
 }
 
-/// Sets any event of the twelve, another of four capitals, or none.
+/// Sets any event of the matrix, another of four capitals, or none.
 fn set_any_event(random: &mut Random, message: &mut Message) {
     match random.below(EVENTS.len() + 2) {
-        0 => _ = message.remove(3),
-        1 => _ = message.set(3, random.text(4, values::CAPITALS)),
-        n => _ = message.set(3, EVENTS[n - 2]),
+        0 => _ = message.remove(EVENT_TYPE),
+        1 => _ = message.set(EVENT_TYPE, random.text(WORD_SIZE, values::CAPITALS)),
+        n => _ = message.set(EVENT_TYPE, EVENTS[n - 2]),
     }
 }

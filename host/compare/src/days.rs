@@ -3,17 +3,13 @@
 use crate::cycles::{next_message, Model};
 use crate::faults::{self, Case, Fault};
 use crate::garbage;
-use crate::layout::{self, DAY_ROWS};
-use crate::message::{described, Message, LONGEST_MESSAGE};
+use crate::layout::{self, DAY_CAPS, DAY_ROWS, LARGEST_LENGTH, LENGTH_SIZE, LONGEST_MESSAGE};
+use crate::lists::ACTION_TYPE;
+use crate::message::{described, Message};
 use crate::order;
 use crate::random::Random;
 use crate::sound;
 use crate::values;
-
-/// The caps that the day run opens with.
-const CAPS: [u64; 5] = [250_000_000; 5];
-/// The bytes of a length.
-pub const LENGTH_SIZE: usize = 2;
 
 /// A message led by its length.
 pub fn framed(message: &[u8]) -> Vec<u8> {
@@ -55,10 +51,15 @@ pub fn subject_of(day: &[u8], line: usize) -> String {
     }
 }
 
+/// Where the last whole message of a day ends.
+pub fn messages_end(day: &[u8]) -> usize {
+    let sizes = messages(day).into_iter().map(|one| LENGTH_SIZE + one.len());
+    sizes.sum()
+}
+
 /// A sound NEWT about one of many swaps, some 300 bytes long.
-pub fn new_swap(number: usize) -> Vec<u8> {
-    let uti = format!("1000000000SWAP{number:010}");
-    sound::plain_new().with(1, uti).encode()
+pub fn new_swap(number: u64) -> Vec<u8> {
+    sound::swap(number).encode()
 }
 
 /// Whole messages of so many bytes in all, at least 2: NEWTs of some 300 bytes
@@ -94,9 +95,9 @@ impl Feed {
     /// A feed about so many swaps.
     pub fn about(random: &mut Random, swaps: usize) -> Feed {
         let mut faults = faults::all();
-        faults.retain(|fault| order::from_to(5, 13).contains(&fault.verdict()));
+        faults.retain(|fault| order::of_the_message().contains(&fault.verdict()));
         Feed {
-            model: Model::opened(layout::ledger_size(DAY_ROWS), CAPS),
+            model: Model::opened(layout::ledger_size(DAY_ROWS), DAY_CAPS),
             utis: values::utis(random, swaps),
             faults,
         }
@@ -129,7 +130,7 @@ impl Feed {
     /// A step of a life cycle, with rules broken.
     fn faulty(&mut self, random: &mut Random) -> Vec<u8> {
         let message = next_message(random, &self.model, &self.utis);
-        let action = String::from_utf8_lossy(message.value(2)).into_owned();
+        let action = message.text(ACTION_TYPE);
         let mut case = Case::sound(random, &action);
         case.message = message;
         let chosen = faults::some(random, &self.faults, &action, 3);
@@ -159,8 +160,8 @@ impl Feed {
 /// A length above the longest, most often not far.
 fn overlong_length(random: &mut Random) -> usize {
     match random.below(12) {
-        0 => 65_535,
-        1 => random.between(LONGEST_MESSAGE + 1, 65_535),
+        0 => LARGEST_LENGTH,
+        1 => random.between(LONGEST_MESSAGE + 1, LARGEST_LENGTH),
         2 => LONGEST_MESSAGE + 1,
         _ => random.between(LONGEST_MESSAGE + 1, 6_000),
     }
@@ -212,7 +213,7 @@ mod tests {
     use super::*;
 
     #[test]
-    fn days_are_laid_out_as_the_paper_says() {
+    fn days_are_laid_out_as_specified() {
         assert_eq!(of(&[vec![], vec![7, 8, 9]]), [0, 0, 3, 0, 7, 8, 9]);
         assert_eq!(framed(&[1; 0x0801])[..3], [1, 8, 1]);
         let day = [0, 0, 3, 0, 7, 8, 9, 1];
@@ -225,8 +226,7 @@ mod tests {
         for length in [2, 3, 200, 290, 300, 5_000, 65_536, 65_537] {
             let day = of_length(length);
             assert_eq!(day.len(), length);
-            let whole: usize = messages(&day).iter().map(|one| 2 + one.len()).sum();
-            assert_eq!(whole, length);
+            assert_eq!(messages_end(&day), length);
         }
     }
 }

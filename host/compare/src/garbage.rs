@@ -1,6 +1,7 @@
 //! Bytes that no host would send.
 
-use crate::message::{COUNT_SIZE, ENTRY_SIZE, LAST_CODE};
+use crate::layout::{COUNT_SIZE, ENTRY_SIZE};
+use crate::lists::LAST_CODE;
 use crate::random::Random;
 
 /// Changes some bytes at random.

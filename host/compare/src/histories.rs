@@ -2,8 +2,9 @@
 //! are equal.
 
 use crate::compared::Compared;
-use crate::layout::{LINE_SIZE, TERMS_SIZE};
-use crate::matrix::is_full;
+use crate::layout::{Caps, LINE_SIZE, TERMS_SIZE};
+use crate::lists::{ACTION_TYPE, EVENT_TIMESTAMP, EVENT_TYPE, UTI};
+use crate::matrix::{is_full, writes_line};
 use crate::message::Message;
 use crate::terms::terms_of;
 
@@ -19,9 +20,9 @@ pub struct Call {
 pub struct History {
     /// The ledger's bytes before opening.
     pub ledger: Vec<u8>,
-    pub caps: [u64; 5],
+    pub caps: Caps,
     /// Bytes written over the opened ledger before the first submission, with
-    /// their place; empty in a history that starts as the paper says.
+    /// their place; empty in a history that starts as specified.
     pub tampering: (usize, Vec<u8>),
     pub calls: Vec<Call>,
 }
@@ -31,7 +32,7 @@ pub struct Run {
     /// Whether opening answered 0 and nothing else wrote before the first
     /// submission.
     pub fresh: bool,
-    pub caps: [u64; 5],
+    pub caps: Caps,
     pub messages: Vec<Vec<u8>>,
     pub verdicts: Vec<u8>,
     /// A line's bytes as each submission left them, over accepted messages
@@ -118,9 +119,9 @@ pub fn broken_premises(first: &Run, second: &Run) -> Vec<Premise> {
             Premise::Verdict,
             first.verdicts[..shorter] == second.verdicts[..shorter],
         ),
-        (Premise::Action, equal(2)),
-        (Premise::Event, equal(3)),
-        (Premise::EventTime, equal(4)),
+        (Premise::Action, equal(ACTION_TYPE)),
+        (Premise::Event, equal(EVENT_TYPE)),
+        (Premise::EventTime, equal(EVENT_TIMESTAMP)),
         (Premise::Terms, places.iter().all(terms)),
         (Premise::Swap, swaps_alike(first, second, &places)),
     ];
@@ -136,7 +137,7 @@ fn both_accepted(first: &Run, second: &Run) -> Vec<usize> {
 }
 
 fn swaps_alike(first: &Run, second: &Run, places: &[usize]) -> bool {
-    let same = |run: &Run, a: usize, b: usize| run.value(a, 1) == run.value(b, 1);
+    let same = |run: &Run, a: usize, b: usize| run.value(a, UTI) == run.value(b, UTI);
     places.iter().enumerate().all(|(n, &a)| {
         let later = &places[n + 1..];
         later
@@ -157,21 +158,23 @@ impl Run {
     /// The masked terms of an accepted message: a full one's own; those of the
     /// swap's last accepted full message earlier in the list for TERM and
     /// EROR; none for others.
-    fn terms(&self, place: usize, caps: &[u64; 5]) -> Option<[u8; TERMS_SIZE]> {
+    fn terms(&self, place: usize, caps: &Caps) -> Option<[u8; TERMS_SIZE]> {
         let message = self.message(place);
-        match message.value(2) {
-            b"NEWT" | b"MODI" | b"CORR" | b"REVI" => Some(terms_of(&message, caps)),
-            b"TERM" | b"EROR" => self.stored_terms(place, message.value(1), caps),
-            _ => None,
+        let action = message.text(ACTION_TYPE);
+        if is_full(&action) {
+            Some(terms_of(&message, caps))
+        } else if writes_line(&action) {
+            self.stored_terms(place, message.value(UTI), caps)
+        } else {
+            None
         }
     }
 
-    fn stored_terms(&self, place: usize, uti: &[u8], caps: &[u64; 5]) -> Option<[u8; TERMS_SIZE]> {
+    fn stored_terms(&self, place: usize, uti: &[u8], caps: &Caps) -> Option<[u8; TERMS_SIZE]> {
         let accepted = (0..place).rev().filter(|&n| self.verdicts[n] == 0);
-        let mut full = accepted.map(|n| self.message(n)).filter(|message| {
-            let action = String::from_utf8_lossy(message.value(2));
-            message.value(1) == uti && is_full(&action)
-        });
+        let of_swap =
+            |message: &Message| message.value(UTI) == uti && is_full(&message.text(ACTION_TYPE));
+        let mut full = accepted.map(|n| self.message(n)).filter(of_swap);
         full.next().map(|message| terms_of(&message, caps))
     }
 }

@@ -1,5 +1,6 @@
 //! The two that judge: the core and the checker.
 
+use crate::layout::Caps;
 use sdr::Answer;
 
 /// The three operations on lent bytes.
@@ -7,7 +8,7 @@ pub trait Judge: Sync {
     /// The name that a report uses.
     fn name(&self) -> &'static str;
     /// Opens a ledger; only the verdict of the answer is used.
-    fn open(&self, ledger: &mut [u8], caps: &[u64; 5]) -> Answer;
+    fn open(&self, ledger: &mut [u8], caps: &Caps) -> Answer;
     /// Submits one message.
     fn submit(&self, ledger: &mut [u8], tape: &mut [u8], message: &[u8]) -> Answer;
     /// Asks the status of one swap.
@@ -35,7 +36,7 @@ impl Judge for Core {
         "core"
     }
 
-    fn open(&self, ledger: &mut [u8], caps: &[u64; 5]) -> Answer {
+    fn open(&self, ledger: &mut [u8], caps: &Caps) -> Answer {
         sdr::open(ledger, caps)
     }
 
@@ -53,7 +54,7 @@ impl Judge for Apart {
         "apart"
     }
 
-    fn open(&self, ledger: &mut [u8], caps: &[u64; 5]) -> Answer {
+    fn open(&self, ledger: &mut [u8], caps: &Caps) -> Answer {
         let mut own: Box<[u8]> = Box::from(&*ledger);
         let answer = sdr::open(&mut own, caps);
         ledger.copy_from_slice(&own);
@@ -79,7 +80,7 @@ impl Judge for Checker {
         "checker"
     }
 
-    fn open(&self, ledger: &mut [u8], caps: &[u64; 5]) -> Answer {
+    fn open(&self, ledger: &mut [u8], caps: &Caps) -> Answer {
         Answer {
             verdict: checker::open(ledger, caps),
             ..Answer::default()

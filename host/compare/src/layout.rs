@@ -1,5 +1,11 @@
-//! The ledger's and the tape line's layout, and ledgers put together by hand.
+//! The sizes, offsets and limits of the specification. Ledgers that are put
+//! together by hand stand beside it.
 
+mod ledger;
+
+pub use ledger::{described, place, u32_at, u64_at, write, Header, Row};
+
+use crate::lists::CLASSES;
 use std::ops::Range;
 
 /// A field of so many bytes right behind another one.
@@ -7,6 +13,8 @@ const fn after(field: Range<usize>, size: usize) -> Range<usize> {
     field.end..field.end + size
 }
 
+/// The bytes of a u16.
+pub const U16_SIZE: usize = 2;
 /// The bytes of a u32.
 pub const U32_SIZE: usize = 4;
 /// The bytes of a u64.
@@ -14,8 +22,48 @@ pub const U64_SIZE: usize = 8;
 
 // The message.
 
-/// The last element code.
-pub const LAST_CODE: u8 = 25;
+/// The longest message.
+pub const LONGEST_MESSAGE: usize = 2_048;
+/// The bytes of the count.
+pub const COUNT_SIZE: usize = U16_SIZE;
+/// An entry is a code and, behind it, an offset.
+pub const OFFSET_IN_ENTRY: usize = U16_SIZE;
+/// The bytes of an entry.
+pub const ENTRY_SIZE: usize = OFFSET_IN_ENTRY + U16_SIZE;
+
+// Forms of values.
+
+/// The most digits of a number, in all and after the point.
+#[derive(Clone, Copy)]
+pub struct Num {
+    pub digits: usize,
+    pub after_point: usize,
+}
+
+/// The notional amount.
+pub const NOTIONAL_NUM: Num = Num {
+    digits: 25,
+    after_point: 5,
+};
+/// The package price.
+pub const PRICE_NUM: Num = Num {
+    digits: 18,
+    after_point: 13,
+};
+/// The package price with the notation for decimals.
+pub const DECIMAL_PRICE_NUM: Num = Num {
+    digits: 11,
+    after_point: 10,
+};
+
+/// The shortest UTI.
+pub const SHORTEST_UTI: usize = 21;
+/// The longest UTI.
+pub const UTI_SIZE: usize = 52;
+/// The characters of a LEI before its check digits.
+pub const LEI_BODY_SIZE: usize = 18;
+/// The longest package identifier.
+pub const LONGEST_PACKAGE_IDENTIFIER: usize = 100;
 
 // The tape line: the sizes of fields, and the fields one after the other.
 
@@ -74,13 +122,13 @@ pub const EXECUTION_IN_TERMS: Range<usize> = 0..TIME_SIZE;
 
 // The header.
 
-/// The asset classes, each with a cap.
-pub const CLASS_COUNT: usize = 5;
+/// A cap for each asset class.
+pub type Caps = [u64; CLASSES.len()];
 
 pub const ROWS_IN_HEADER: Range<usize> = 0..U32_SIZE;
 pub const FIRST_ROW_IN_HEADER: Range<usize> = after(ROWS_IN_HEADER, U32_SIZE);
 pub const NEXT_IN_HEADER: Range<usize> = after(FIRST_ROW_IN_HEADER, U64_SIZE);
-pub const CAPS_IN_HEADER: Range<usize> = after(NEXT_IN_HEADER, CLASS_COUNT * U64_SIZE);
+pub const CAPS_IN_HEADER: Range<usize> = after(NEXT_IN_HEADER, CLASSES.len() * U64_SIZE);
 pub const ROW_SIZE_IN_HEADER: Range<usize> = after(CAPS_IN_HEADER, U32_SIZE);
 pub const CAPACITY_IN_HEADER: Range<usize> = after(ROW_SIZE_IN_HEADER, U32_SIZE);
 
@@ -89,8 +137,6 @@ pub const HEADER_SIZE: usize = CAPACITY_IN_HEADER.end;
 
 // A row.
 
-/// The longest UTI.
-pub const UTI_SIZE: usize = 52;
 /// The zeros that end a row.
 pub const TAIL_SIZE: usize = 5;
 
@@ -108,92 +154,23 @@ pub const ROW_SIZE: usize = TAIL_IN_ROW.end;
 pub const SHORTEST_LEDGER: usize = HEADER_SIZE + ROW_SIZE;
 /// The most rows that a ledger can have.
 pub const LARGEST_CAPACITY: usize = 100_000;
-/// The rows that the day run opens.
-pub const DAY_ROWS: usize = 400;
 /// Identifiers stay below this; the next one may come to it.
 pub const IDENTIFIER_LIMIT: u64 = 1_000_000_000_000;
+/// The smallest cap.
+pub const SMALLEST_CAP: u64 = 1_000;
+/// The largest cap.
+pub const LARGEST_CAP: u64 = 1_000_000_000_000_000;
 
-/// The ledger's header.
-#[derive(Clone, Debug, PartialEq, Eq)]
-pub struct Header {
-    pub rows: u32,
-    pub first_row: u32,
-    pub next: u64,
-    pub caps: [u64; CLASS_COUNT],
-    pub row_size: u32,
-    pub capacity: u32,
-}
+// The day run.
 
-impl Header {
-    /// The header that opening writes into a ledger of a length.
-    pub fn opened(length: usize, caps: [u64; CLASS_COUNT]) -> Self {
-        Header {
-            rows: 0,
-            first_row: HEADER_SIZE as u32,
-            next: 1,
-            caps,
-            row_size: ROW_SIZE as u32,
-            capacity: capacity(length) as u32,
-        }
-    }
-
-    /// The header's bytes.
-    pub fn encode(&self) -> [u8; HEADER_SIZE] {
-        let mut bytes = [0; HEADER_SIZE];
-        bytes[ROWS_IN_HEADER].copy_from_slice(&self.rows.to_le_bytes());
-        bytes[FIRST_ROW_IN_HEADER].copy_from_slice(&self.first_row.to_le_bytes());
-        bytes[NEXT_IN_HEADER].copy_from_slice(&self.next.to_le_bytes());
-        let caps = self.caps.map(u64::to_le_bytes);
-        bytes[CAPS_IN_HEADER].copy_from_slice(caps.as_flattened());
-        bytes[ROW_SIZE_IN_HEADER].copy_from_slice(&self.row_size.to_le_bytes());
-        bytes[CAPACITY_IN_HEADER].copy_from_slice(&self.capacity.to_le_bytes());
-        bytes
-    }
-}
-
-/// A row of the ledger.
-#[derive(Clone, Debug, PartialEq, Eq)]
-pub struct Row {
-    pub status: u8,
-    pub length: u8,
-    pub uti: [u8; UTI_SIZE],
-    pub identifier: u64,
-    pub terms: [u8; TERMS_SIZE],
-    pub tail: [u8; TAIL_SIZE],
-}
-
-impl Row {
-    /// The row that NEWT writes.
-    pub fn new(uti: &[u8], identifier: u64, terms: [u8; TERMS_SIZE]) -> Self {
-        let mut padded = [b' '; UTI_SIZE];
-        padded[..uti.len()].copy_from_slice(uti);
-        Row {
-            status: sdr::LIVE,
-            length: uti.len() as u8,
-            uti: padded,
-            identifier,
-            terms,
-            tail: [0; TAIL_SIZE],
-        }
-    }
-
-    /// The UTI without its padding.
-    pub fn uti(&self) -> &[u8] {
-        &self.uti[..usize::from(self.length)]
-    }
-
-    /// The row's bytes.
-    pub fn encode(&self) -> [u8; ROW_SIZE] {
-        let mut bytes = [0; ROW_SIZE];
-        bytes[STATUS_IN_ROW] = self.status;
-        bytes[LENGTH_IN_ROW] = self.length;
-        bytes[UTI_IN_ROW].copy_from_slice(&self.uti);
-        bytes[IDENTIFIER_IN_ROW].copy_from_slice(&self.identifier.to_le_bytes());
-        bytes[TERMS_IN_ROW].copy_from_slice(&self.terms);
-        bytes[TAIL_IN_ROW].copy_from_slice(&self.tail);
-        bytes
-    }
-}
+/// The bytes of the length before a message.
+pub const LENGTH_SIZE: usize = U16_SIZE;
+/// The largest length.
+pub const LARGEST_LENGTH: usize = 65_535;
+/// The rows that the day run opens.
+pub const DAY_ROWS: usize = 400;
+/// The caps that the day run opens with.
+pub const DAY_CAPS: Caps = [250_000_000; CLASSES.len()];
 
 /// The rows that go into a ledger of a length.
 pub fn capacity(length: usize) -> usize {
@@ -210,151 +187,43 @@ pub fn row_range(row: usize) -> Range<usize> {
     ledger_size(row)..ledger_size(row + 1)
 }
 
-/// Writes header and rows over the start of a ledger, cut where it ends.
-pub fn write(ledger: &mut [u8], header: &Header, rows: &[Row]) {
-    let mut bytes = header.encode().to_vec();
-    for row in rows {
-        bytes.extend(row.encode());
-    }
-    let length = bytes.len().min(ledger.len());
-    ledger[..length].copy_from_slice(&bytes[..length]);
-}
-
-/// The number that a field of eight bytes holds.
-pub fn u64_at(bytes: &[u8], field: Range<usize>) -> u64 {
-    u64::from_le_bytes(bytes[field].try_into().expect("eight bytes"))
-}
-
-/// The number that a field of four bytes holds.
-pub fn u32_at(bytes: &[u8], field: Range<usize>) -> u32 {
-    u32::from_le_bytes(bytes[field].try_into().expect("four bytes"))
-}
-
-/// Says in words where a byte of the ledger lies.
-pub fn place(at: usize) -> String {
-    if at < HEADER_SIZE {
-        return format!("header byte {at}");
-    }
-    let row = (at - HEADER_SIZE) / ROW_SIZE;
-    format!("row {row} byte {}", (at - HEADER_SIZE) % ROW_SIZE)
-}
-
-/// Says in words what a ledger's header holds.
-pub fn described(ledger: &[u8]) -> String {
-    let length = ledger.len();
-    if length < HEADER_SIZE {
-        return format!("{length} bytes");
-    }
-    let mut caps = ledger[CAPS_IN_HEADER].chunks_exact(U64_SIZE);
-    let header = Header {
-        rows: u32_at(ledger, ROWS_IN_HEADER),
-        first_row: u32_at(ledger, FIRST_ROW_IN_HEADER),
-        next: u64_at(ledger, NEXT_IN_HEADER),
-        caps: [(); CLASS_COUNT].map(|()| u64_at(caps.next().expect("a cap"), 0..U64_SIZE)),
-        row_size: u32_at(ledger, ROW_SIZE_IN_HEADER),
-        capacity: u32_at(ledger, CAPACITY_IN_HEADER),
-    };
-    format!("{length} bytes, {header:?}")
-}
-
-/// The numbers of document 01, to which the sums have to come.
+/// The sums are held to the specification by tests/specification.rs.
 #[cfg(test)]
 mod tests {
     use super::*;
 
-    fn check(fields: &[(Range<usize>, usize, usize)], size: usize) {
-        let mut end = 0;
-        for (field, offset, length) in fields {
-            assert_eq!(*field, *offset..offset + length);
-            assert_eq!(field.start, end);
-            end = field.end;
-        }
-        assert_eq!(end, size);
+    #[test]
+    fn an_opened_header() {
+        let header = Header::opened(ledger_size(LARGEST_CAPACITY), [1, 2, 3, 4, 5]);
+        let bytes = header.encode();
+        assert_eq!(u32_at(&bytes, FIRST_ROW_IN_HEADER) as usize, HEADER_SIZE);
+        assert_eq!(u32_at(&bytes, ROW_SIZE_IN_HEADER) as usize, ROW_SIZE);
+        assert_eq!(u32_at(&bytes, CAPACITY_IN_HEADER), 100_000);
+        let caps = bytes[CAPS_IN_HEADER].chunks(U64_SIZE);
+        assert!(caps.map(|cap| cap[0]).eq(1..=5));
+        let due = format!("{HEADER_SIZE} bytes, {header:?}");
+        assert_eq!(described(&bytes), due);
     }
 
     #[test]
-    fn the_line() {
-        let fields = [
-            (IDENTIFIER_IN_LINE, 0, 12),
-            (PREVIOUS_IN_LINE, 12, 12),
-            (ACTION_IN_LINE, 24, 4),
-            (EVENT_IN_LINE, 28, 4),
-            (EVENT_TIME_IN_LINE, 32, 20),
-            (EXECUTION_IN_LINE, 52, 20),
-            (EFFECTIVE_IN_LINE, 72, 10),
-            (EXPIRATION_IN_LINE, 82, 10),
-            (CLEARED_IN_LINE, 92, 1),
-            (NON_STANDARDIZED_IN_LINE, 93, 1),
-            (BLOCK_IN_LINE, 94, 1),
-            (LARGE_IN_LINE, 95, 1),
-            (PACKAGE_IN_LINE, 96, 1),
-            (PRICE_IN_LINE, 97, 20),
-            (NOTATION_IN_LINE, 117, 1),
-            (PRICE_CURRENCY_IN_LINE, 118, 3),
-            (CLASS_IN_LINE, 121, 2),
-            (NOTIONAL_IN_LINE, 123, 16),
-            (PLUS_IN_LINE, 139, 1),
-            (NOTIONAL_CURRENCY_IN_LINE, 140, 3),
-            (LOCATION_IN_LINE, 143, 2),
-            (NEWLINE_IN_LINE, 145, 1),
-        ];
-        check(&fields, 146);
-        assert_eq!(LINE_SIZE, 146);
-        assert_eq!(TERMS_IN_LINE, 52..145);
-        assert_eq!(TERMS_SIZE, 93);
-    }
-
-    #[test]
-    fn the_header() {
-        let fields = [
-            (ROWS_IN_HEADER, 0, 4),
-            (FIRST_ROW_IN_HEADER, 4, 4),
-            (NEXT_IN_HEADER, 8, 8),
-            (CAPS_IN_HEADER, 16, 40),
-            (ROW_SIZE_IN_HEADER, 56, 4),
-            (CAPACITY_IN_HEADER, 60, 4),
-        ];
-        check(&fields, 64);
-        let header = Header::opened(16_000_064, [1, 2, 3, 4, 5]);
-        assert_eq!((header.first_row, header.row_size), (64, 160));
-        assert_eq!(header.capacity, 100_000);
-        let caps = header.encode()[16..56].to_vec();
-        assert!(caps.chunks(8).map(|cap| cap[0]).eq(1..=5));
-        let described = described(&header.encode());
-        assert_eq!(described, format!("64 bytes, {header:?}"));
-    }
-
-    #[test]
-    fn a_row() {
-        let fields = [
-            (STATUS_IN_ROW..1, 0, 1),
-            (LENGTH_IN_ROW..2, 1, 1),
-            (UTI_IN_ROW, 2, 52),
-            (IDENTIFIER_IN_ROW, 54, 8),
-            (TERMS_IN_ROW, 62, 93),
-            (TAIL_IN_ROW, 155, 5),
-        ];
-        check(&fields, 160);
-    }
-
-    #[test]
-    fn ledgers() {
-        assert_eq!((HEADER_SIZE, ROW_SIZE), (64, 160));
-        assert_eq!((SHORTEST_LEDGER, ledger_size(1)), (224, 224));
-        assert_eq!(row_range(1), 224..384);
+    fn capacities_and_places() {
         for (length, rows) in [
             (0, 0),
-            (223, 0),
-            (224, 1),
-            (383, 1),
-            (384, 2),
-            (16_000_063, 99_999),
-            (16_000_064, 100_000),
-            (16_000_224, 100_000),
+            (SHORTEST_LEDGER - 1, 0),
+            (SHORTEST_LEDGER, 1),
+            (SHORTEST_LEDGER + ROW_SIZE - 1, 1),
+            (SHORTEST_LEDGER + ROW_SIZE, 2),
+            (HEADER_SIZE + 100_000 * ROW_SIZE - 1, 99_999),
+            (HEADER_SIZE + 100_000 * ROW_SIZE, 100_000),
+            (HEADER_SIZE + 100_001 * ROW_SIZE, 100_000),
         ] {
             assert_eq!(capacity(length), rows, "{length}");
         }
-        assert_eq!(place(63), "header byte 63");
-        assert_eq!(place(299), "row 1 byte 75");
+        assert_eq!(row_range(0), HEADER_SIZE..SHORTEST_LEDGER);
+        assert_eq!(
+            place(HEADER_SIZE - 1),
+            format!("header byte {}", HEADER_SIZE - 1)
+        );
+        assert_eq!(place(SHORTEST_LEDGER + 75), "row 1 byte 75");
     }
 }

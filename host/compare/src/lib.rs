@@ -3,7 +3,8 @@
 //! Both are lent copies of the same ledger, tape buffer and message; their
 //! answers and every byte afterwards have to be equal ([`compared`]). What is
 //! submitted comes from generators ([`sound`], [`faults`], [`cycles`]) that
-//! also say, from the paper, which verdict is due.
+//! also say which verdict is due. What they know of the specification stands in
+//! [`layout`] (sizes, offsets and limits), [`lists`] and [`order`] (of rules).
 
 pub mod calls;
 pub mod compared;
@@ -16,6 +17,7 @@ pub mod guarded;
 pub mod histories;
 pub mod judge;
 pub mod layout;
+pub mod lists;
 pub mod malformed;
 pub mod matrix;
 pub mod message;

@@ -1,31 +1,36 @@
-//! Values that break the form of their element.
+//! Values that break the form of their element, and other values that a rule
+//! refuses.
 
-use crate::layout::UTI_SIZE;
+use crate::layout::{DATE_SIZE, LARGEST_CAP, LONGEST_PACKAGE_IDENTIFIER, SHORTEST_UTI};
+use crate::layout::{SMALLEST_CAP, UTI_SIZE};
+use crate::lists::*;
 use crate::values::{remainder, CAPITALS};
 
 /// Values that break the form of an element, at least two for each code.
 pub fn values(code: u8) -> Vec<Vec<u8>> {
     match code {
-        1 => utis(),
-        2 => list(&[
+        UTI => utis(),
+        ACTION_TYPE => list(&[
             "newt", "NEW", "NEWTS", "VALU", "MARU", "NEWT ", " NEWT", "TERN",
         ]),
-        3 => list(&[
+        EVENT_TYPE => list(&[
             "trad", "TRA", "TRADE", "TR4D", "TRA ", "T", "@RAD", "TRA[", "Trad", "----",
         ]),
-        4..=6 => times(),
-        7..=9 => dates(),
-        10 => list(&["y", "YES", " ", "X", "NN", "n", "i", "Y ", "T"]),
-        11 | 12 | 13 | 15 => truths(),
-        14 => list(&["post", "POS", "POSTS", "PREB", "UNAL ", "Prea", "ALOC", "P"]),
-        16 => packages(),
-        17 => prices(),
-        18 => list(&["2", "0", "4", "11", "1 ", " 3", "I", "-1", "1.0"]),
-        19 | 21 => list(&["US", "USDX", "usd", "U5D", "US ", "$", "UsD", "U[D", "@BC"]),
-        20 => amounts(),
-        22 => list(&["U", "USA", "us", "U1", "U ", "Us", "[A", "A@"]),
-        23 | 24 => leis(),
-        25 => list(&["cr", "CRE", "C", "XX", "EQ ", "Fx", "OC", "IR\0", "CRIR"]),
+        EVENT_TIMESTAMP | REPORTING_TIMESTAMP | EXECUTION_TIMESTAMP => times(),
+        EFFECTIVE_DATE | EXPIRATION_DATE | SETTLEMENT_DATE => dates(),
+        CLEARED => list(&["y", "YES", " ", "X", "NN", "n", "i", "Y ", "T"]),
+        _ if TRUTH_CODES.contains(&code) => truths(),
+        ALLOCATION => list(&["post", "POS", "POSTS", "PREB", "UNAL ", "Prea", "ALOC", "P"]),
+        PACKAGE_IDENTIFIER => package_identifiers(),
+        PACKAGE_PRICE => prices(),
+        PRICE_NOTATION => list(&["2", "0", "4", "11", "1 ", " 3", "I", "-1", "1.0"]),
+        PRICE_CURRENCY | NOTIONAL_CURRENCY => {
+            list(&["US", "USDX", "usd", "U5D", "US ", "$", "UsD", "U[D", "@BC"])
+        }
+        NOTIONAL_AMOUNT => amounts(),
+        SETTLEMENT_LOCATION => list(&["U", "USA", "us", "U1", "U ", "Us", "[A", "A@"]),
+        COUNTERPARTY_1 | COUNTERPARTY_2 => leis(),
+        ASSET_CLASS => list(&["cr", "CRE", "C", "XX", "EQ ", "Fx", "OC", "IR\0", "CRIR"]),
         _ => panic!("no element has code {code}"),
     }
 }
@@ -40,8 +45,8 @@ fn list(values: &[&str]) -> Vec<Vec<u8>> {
 fn utis() -> Vec<Vec<u8>> {
     let sound = b"ABCDEFGHIJ0123456789K";
     let mut values = vec![
-        sound[..20].to_vec(),
-        vec![b'A'; 53],
+        sound[..SHORTEST_UTI - 1].to_vec(),
+        vec![b'A'; UTI_SIZE + 1],
         vec![b'9'; 200],
         vec![b'A'],
     ];
@@ -111,7 +116,7 @@ fn times() -> Vec<Vec<u8>> {
         "2024-03-01T10:15:30+",
         "2024-03-01T99:15:30Z",
     ]);
-    for date in dates().into_iter().filter(|date| date.len() == 10) {
+    for date in dates().into_iter().filter(|date| date.len() == DATE_SIZE) {
         values.push([date.as_slice(), b"T10:15:30Z"].concat());
     }
     values
@@ -139,11 +144,11 @@ fn truths() -> Vec<Vec<u8>> {
     ])
 }
 
-fn packages() -> Vec<Vec<u8>> {
+fn package_identifiers() -> Vec<Vec<u8>> {
     let mut values = list(&[
         "A B", "A-B", "A_", " ", "a.b", "A/", "A:", "@", "[", "`", "{", "A\0",
     ]);
-    values.push(vec![b'A'; 101]);
+    values.push(vec![b'A'; LONGEST_PACKAGE_IDENTIFIER + 1]);
     values.push(vec![b'z'; 400]);
     values.push(b"caf\xe9".to_vec());
     values
@@ -214,6 +219,38 @@ fn leis() -> Vec<Vec<u8>> {
     values.push(lei_with_letters());
     values
 }
+
+/// Prices that are sound, but longer than a decimal one may be.
+pub const LONG_DECIMAL_PRICES: [&str; 8] = [
+    "123456789012",
+    "-123456789012",
+    "0.12345678901",
+    "-0.12345678901",
+    "000000000000",
+    "1234567.89012",
+    "123456789012345678",
+    "12345.1234567890123",
+];
+
+/// Caps that are out of range or not their own rounded amount.
+pub const CAPS: [u64; 16] = [
+    0,
+    5,
+    995,
+    SMALLEST_CAP - 1,
+    1_001,
+    1_050,
+    9_950,
+    100_500,
+    250_000_001,
+    250_400_000,
+    125_000_000_000,
+    LARGEST_CAP - 1,
+    LARGEST_CAP + 1,
+    1_000_050_000_000_000,
+    1_050_000_000_000_000,
+    u64::MAX,
+];
 
 /// A number that leaves 1 but ends in letters where check digits are due.
 fn lei_with_letters() -> Vec<u8> {

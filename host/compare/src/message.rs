@@ -1,13 +1,7 @@
 //! Messages: elements by code, and their bytes.
 
-pub use crate::layout::LAST_CODE;
-
-/// The longest message.
-pub const LONGEST_MESSAGE: usize = 2_048;
-/// The bytes of the count.
-pub const COUNT_SIZE: usize = 2;
-/// The bytes of an entry: a code and an offset.
-pub const ENTRY_SIZE: usize = 4;
+use crate::layout::{COUNT_SIZE, ENTRY_SIZE, OFFSET_IN_ENTRY, U16_SIZE};
+use crate::lists::{codes, is_code, LAST_CODE};
 
 /// The elements of a message by code.
 #[derive(Clone, Debug, Default, PartialEq, Eq)]
@@ -52,6 +46,11 @@ impl Message {
         self.get(code).unwrap_or_default()
     }
 
+    /// An element's value as text, as of an action or event.
+    pub fn text(&self, code: u8) -> String {
+        String::from_utf8_lossy(self.value(code)).into_owned()
+    }
+
     /// Whether the element is there.
     pub fn has(&self, code: u8) -> bool {
         self.get(code).is_some()
@@ -59,7 +58,7 @@ impl Message {
 
     /// The codes that are there, rising.
     pub fn codes(&self) -> Vec<u8> {
-        (1..=LAST_CODE).filter(|&code| self.has(code)).collect()
+        codes().filter(|&code| self.has(code)).collect()
     }
 
     /// The message's bytes: count, entries, values.
@@ -85,10 +84,10 @@ impl Message {
         let mut starts = Vec::new();
         for place in places {
             let code = u8::try_from(number(bytes, place)?).ok()?;
-            if !(1..=LAST_CODE).contains(&code) {
+            if !is_code(code) {
                 return None;
             }
-            starts.push((code, number(bytes, place + 2)?));
+            starts.push((code, number(bytes, place + OFFSET_IN_ENTRY)?));
         }
         let mut message = Message::default();
         for (n, &(code, start)) in starts.iter().enumerate() {
@@ -101,7 +100,7 @@ impl Message {
 }
 
 fn number(bytes: &[u8], at: usize) -> Option<usize> {
-    let pair = bytes.get(at..at + 2)?;
+    let pair = bytes.get(at..at + U16_SIZE)?;
     Some(usize::from(pair[0]) + 256 * usize::from(pair[1]))
 }
 
@@ -129,7 +128,7 @@ mod tests {
     use super::Message;
 
     #[test]
-    fn the_bytes_are_those_of_the_paper() {
+    fn the_bytes_are_those_of_the_specification() {
         let mut message = Message::default();
         assert_eq!(message.encode(), [0, 0]);
         message.set(2, b"NEWT").set(5, b"x").set(9, b"yz");

@@ -5,8 +5,8 @@ use crate::cycles::{next_message, Model};
 use crate::faults::{self, Case, Fault};
 use crate::garbage;
 use crate::judge::Judge;
-use crate::layout::{self, ROW_SIZE};
-use crate::matrix::ACTIONS;
+use crate::layout::{self, DAY_CAPS, DAY_ROWS, ROW_SIZE};
+use crate::lists::ACTIONS;
 use crate::random::Random;
 use crate::tally::Tally;
 use crate::values;
@@ -34,7 +34,7 @@ impl Mix {
             random: Random::new(seed),
             long: Compared::between(judges),
             single: Compared::between(judges),
-            model: Model::opened(0, [0; 5]),
+            model: Model::opened(0, DAY_CAPS),
             utis: Vec::new(),
             faults: faults::all(),
             steps: 0,
@@ -65,7 +65,7 @@ impl Mix {
 
     /// Opens another ledger for life cycles.
     fn open(&mut self) -> Result<(), Mismatch> {
-        let rows = *self.random.pick(&[1, 2, 3, 7, 20, 60, 400]);
+        let rows = *self.random.pick(&[1, 2, 3, 7, 20, 60, DAY_ROWS]);
         let length = layout::ledger_size(rows) + self.random.below(ROW_SIZE);
         let caps = values::caps(&mut self.random);
         self.long.set_ledger(&self.random.bytes(length));

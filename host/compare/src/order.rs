@@ -1,6 +1,8 @@
 //! The order of checking: for each operation the verdict numbers of its rules,
 //! the rule that is judged first in front.
 
+use sdr::{ACCEPTED, DATES_DISORDERED, LAYOUT_WRONG};
+
 /// The rules of opening.
 pub const OPENING: [u8; 2] = [1, 2];
 
@@ -9,6 +11,9 @@ pub const SUBMITTING: [u8; 16] = [3, 4, 5, 6, 7, 8, 9, 10, 11, 12, 13, 14, 15, 1
 
 /// The rules of a status question.
 pub const ASKING: [u8; 3] = [3, 9, 14];
+
+/// The rules of a submission that name an element.
+pub const NAMING_AN_ELEMENT: [u8; 5] = [6, 7, 8, 9, 11];
 
 /// The place of a submission's rule in the order.
 pub fn place(verdict: u8) -> usize {
@@ -19,6 +24,17 @@ pub fn place(verdict: u8) -> usize {
 /// The rules of a submission from one up to another.
 pub fn from_to(first: u8, last: u8) -> &'static [u8] {
     &SUBMITTING[place(first)..=place(last)]
+}
+
+/// The rules of a submission that look at the message alone.
+pub fn of_the_message() -> &'static [u8] {
+    from_to(LAYOUT_WRONG, DATES_DISORDERED)
+}
+
+/// The verdict on a submission that breaks these rules and no others.
+pub fn first_of(broken: &[u8]) -> u8 {
+    let first = SUBMITTING.iter().find(|rule| broken.contains(rule));
+    first.copied().unwrap_or(ACCEPTED)
 }
 
 /// The highest verdict number.
@@ -34,7 +50,7 @@ const fn highest(rules: &[u8], so_far: u8) -> u8 {
 
 #[cfg(test)]
 mod tests {
-    use super::{from_to, place, ASKING, HIGHEST_VERDICT, OPENING, SUBMITTING};
+    use super::*;
     use std::path::Path;
 
     /// The numbers that include/sdr.h lists for an operation.
@@ -67,8 +83,16 @@ mod tests {
             assert_eq!(place(verdict), at, "{verdict}");
             assert!(verdict <= HIGHEST_VERDICT && !OPENING.contains(&verdict));
         }
-        assert_eq!(from_to(SUBMITTING[0], SUBMITTING[15]), SUBMITTING);
+        let last = SUBMITTING[SUBMITTING.len() - 1];
+        assert_eq!(from_to(SUBMITTING[0], last), SUBMITTING);
+        assert!(SUBMITTING.contains(&HIGHEST_VERDICT));
+    }
+
+    #[test]
+    fn the_first_broken_rule_counts() {
         assert_eq!(from_to(9, 11), [9, 10, 11]);
-        assert_eq!(HIGHEST_VERDICT, sdr::IDENTIFIERS_SPENT);
+        assert_eq!(first_of(&[17, 4, 10]), 4);
+        assert_eq!(first_of(&[18]), 18);
+        assert_eq!(first_of(&[]), 0);
     }
 }

@@ -1,20 +1,22 @@
-//! Sound messages: those that break none of the rules 5 to 13.
+//! Sound messages: those that break no rule that looks at the message alone.
 
+use crate::layout::{DECIMAL_PRICE_NUM, PRICE_NUM};
+use crate::lists::*;
 use crate::matrix::{events_of, is_full};
 use crate::message::Message;
 use crate::random::Random;
-use crate::terms::{is_true, CLASSES};
-use crate::values::{self, CAPITALS, LETTERS_DIGITS, TRUTHS};
+use crate::terms::{applies, is_package, says};
+use crate::values;
 
 /// A sound message of an action about a swap.
 pub fn message(random: &mut Random, action: &str, uti: &[u8]) -> Message {
     let mut message = Message::default();
-    message.set(1, uti).set(2, action);
-    if let Some(event) = random.pick(events_of(action)) {
-        message.set(3, event);
+    message.set(UTI, uti).set(ACTION_TYPE, action);
+    if let Some(event) = random.pick(&events_of(action)) {
+        message.set(EVENT_TYPE, event);
     }
-    message.set(4, values::time(random));
-    message.set(5, values::time(random));
+    message.set(EVENT_TIMESTAMP, values::time(random));
+    message.set(REPORTING_TIMESTAMP, values::time(random));
     if is_full(action) {
         set_terms(random, &mut message);
     }
@@ -32,104 +34,114 @@ pub fn message_executed(random: &mut Random, action: &str, uti: &[u8], at: &[u8]
 
 /// Sets the execution time and a reporting time that is not before it.
 pub fn set_execution(random: &mut Random, message: &mut Message, at: &[u8]) {
-    message.set(6, at);
-    message.set(5, values::time_from(random, at));
+    message.set(EXECUTION_TIMESTAMP, at);
+    message.set(REPORTING_TIMESTAMP, values::time_from(random, at));
 }
 
 fn set_terms(random: &mut Random, message: &mut Message) {
     let execution = values::time(random);
     set_execution(random, message, &execution);
     set_dates(random, message);
-    message.set(10, random.pick(&["Y", "N", "I"]));
-    if message.value(10) == b"N" || random.once_in(3) {
-        message.set(11, random.pick(&TRUTHS));
+    message.set(CLEARED, random.pick(&CLEARED_VALUES));
+    if applies(message, NON_STANDARDIZED_TERM) || random.once_in(3) {
+        message.set(NON_STANDARDIZED_TERM, random.pick(&TRUTHS));
     }
-    message.set(12, random.pick(&TRUTHS));
-    message.set(13, random.pick(&TRUTHS));
-    message.set(14, random.pick(&["POST", "PREA", "UNAL"]));
-    message.set(15, random.pick(&TRUTHS));
+    message.set(BLOCK_ELECTION, random.pick(&TRUTHS));
+    message.set(LARGE_NOTIONAL_ELECTION, random.pick(&TRUTHS));
+    message.set(ALLOCATION, random.pick(&ALLOCATIONS));
+    message.set(PACKAGE_INDICATOR, random.pick(&TRUTHS));
     set_package(random, message);
-    message.set(20, values::amount(random));
-    message.set(21, random.text(3, CAPITALS));
+    message.set(NOTIONAL_AMOUNT, values::amount(random));
+    message.set(NOTIONAL_CURRENCY, values::currency(random));
     if random.once_in(2) {
-        message.set(22, random.text(2, CAPITALS));
+        message.set(SETTLEMENT_LOCATION, values::location(random));
     }
-    message.set(23, values::lei(random));
-    message.set(24, values::lei(random));
-    message.set(25, random.pick(&CLASSES));
+    message.set(COUNTERPARTY_1, values::lei(random));
+    message.set(COUNTERPARTY_2, values::lei(random));
+    message.set(ASSET_CLASS, random.pick(&CLASSES));
 }
 
 fn set_dates(random: &mut Random, message: &mut Message) {
     let effective = values::date(random);
     let expiration = values::date_from(random, &effective);
     let settlement = values::date_from(random, &expiration);
-    message.set(7, effective);
-    message.set(8, expiration);
-    message.set(9, settlement);
+    message.set(EFFECTIVE_DATE, effective);
+    message.set(EXPIRATION_DATE, expiration);
+    message.set(SETTLEMENT_DATE, settlement);
 }
 
-/// Sets codes 16 to 19: those that are needed, and some that are left out.
+/// Sets the elements of a package: those that are needed, and some that are
+/// left out.
 fn set_package(random: &mut Random, message: &mut Message) {
-    let package = is_true(message.value(15));
+    let package = is_package(message);
     let extra = |random: &mut Random| package || random.once_in(4);
     if extra(random) {
-        message.set(16, package_identifier(random));
+        message.set(PACKAGE_IDENTIFIER, values::package_identifier(random));
     }
     if extra(random) {
-        message.set(18, random.pick(&["1", "3"]));
+        message.set(PRICE_NOTATION, random.pick(&NOTATIONS));
     }
-    let short = package && message.value(18) == b"3";
     if extra(random) {
-        let (most, after) = if short { (11, 10) } else { (18, 13) };
-        message.set(17, values::price(random, most, after));
+        let decimal = package && says(message, PRICE_NOTATION, DECIMAL);
+        let most = if decimal {
+            DECIMAL_PRICE_NUM
+        } else {
+            PRICE_NUM
+        };
+        message.set(PACKAGE_PRICE, values::price(random, most));
     }
-    if (package && !short) || random.once_in(4) {
-        message.set(19, random.text(3, CAPITALS));
+    if applies(message, PRICE_CURRENCY) || random.once_in(4) {
+        message.set(PRICE_CURRENCY, values::currency(random));
     }
 }
 
-/// A package identifier of 1 to 100 letters or digits.
-pub fn package_identifier(random: &mut Random) -> Vec<u8> {
-    let length = *random.pick(&[1, 2, 20, 99, 100]);
-    random.text(length, LETTERS_DIGITS)
-}
-
-/// Makes a full message one of a package, with notation 1 and all of codes 16
-/// to 19, where it is none.
+/// Makes a full message one of a package, with a monetary price and all that a
+/// package needs, where it is none.
 pub fn make_package(random: &mut Random, message: &mut Message) {
-    if is_true(message.value(15)) {
+    if is_package(message) {
         return;
     }
-    message.set(15, "True");
-    message.set(16, package_identifier(random));
-    message.set(17, values::price(random, 18, 13));
-    message.set(18, "1");
-    message.set(19, random.text(3, CAPITALS));
+    message.set(PACKAGE_INDICATOR, "True");
+    message.set(PACKAGE_IDENTIFIER, values::package_identifier(random));
+    message.set(PACKAGE_PRICE, values::price(random, PRICE_NUM));
+    message.set(PRICE_NOTATION, MONETARY);
+    message.set(PRICE_CURRENCY, values::currency(random));
 }
 
-/// A plain NEWT message, the same each time: a base for tests by hand.
+/// The UTI of the swap with this number.
+pub fn uti_of(number: u64) -> String {
+    format!("1000000000SWAP{number:010}")
+}
+
+/// The plain NEWT message about the swap with this number.
+pub fn swap(number: u64) -> Message {
+    plain_new().with(UTI, uti_of(number))
+}
+
+/// A plain NEWT message about swap 1, the same each time: a base for tests by
+/// hand.
 pub fn plain_new() -> Message {
     let mut message = Message::default();
     message
-        .set(1, "1000000000SWAP0000000001")
-        .set(2, "NEWT")
-        .set(3, "TRAD")
-        .set(4, "2024-03-01T10:15:30Z")
-        .set(5, "2024-03-01T10:20:00Z")
-        .set(6, "2024-03-01T10:15:30Z")
-        .set(7, "2024-03-04")
-        .set(8, "2029-03-04")
-        .set(9, "2029-03-06")
-        .set(10, "Y")
-        .set(12, "False")
-        .set(13, "false")
-        .set(14, "UNAL")
-        .set(15, "False")
-        .set(20, "1000000")
-        .set(21, "USD")
-        .set(23, "54930084UKLVMY22DS16")
-        .set(24, "213800WSGIIZCXF1P572")
-        .set(25, "IR");
+        .set(UTI, uti_of(1))
+        .set(ACTION_TYPE, "NEWT")
+        .set(EVENT_TYPE, "TRAD")
+        .set(EVENT_TIMESTAMP, "2024-03-01T10:15:30Z")
+        .set(REPORTING_TIMESTAMP, "2024-03-01T10:20:00Z")
+        .set(EXECUTION_TIMESTAMP, "2024-03-01T10:15:30Z")
+        .set(EFFECTIVE_DATE, "2024-03-04")
+        .set(EXPIRATION_DATE, "2029-03-04")
+        .set(SETTLEMENT_DATE, "2029-03-06")
+        .set(CLEARED, "Y")
+        .set(BLOCK_ELECTION, "False")
+        .set(LARGE_NOTIONAL_ELECTION, "false")
+        .set(ALLOCATION, "UNAL")
+        .set(PACKAGE_INDICATOR, "False")
+        .set(NOTIONAL_AMOUNT, "1000000")
+        .set(NOTIONAL_CURRENCY, "USD")
+        .set(COUNTERPARTY_1, "54930084UKLVMY22DS16")
+        .set(COUNTERPARTY_2, "213800WSGIIZCXF1P572")
+        .set(ASSET_CLASS, "IR");
     message
 }
 
@@ -137,11 +149,11 @@ pub fn plain_new() -> Message {
 pub fn plain_package(notation: &str, price: &str) -> Message {
     let mut message = plain_new();
     message
-        .set(15, "True")
-        .set(16, "PACKAGE1")
-        .set(17, price)
-        .set(18, notation)
-        .set(19, "USD");
+        .set(PACKAGE_INDICATOR, "True")
+        .set(PACKAGE_IDENTIFIER, "PACKAGE1")
+        .set(PACKAGE_PRICE, price)
+        .set(PRICE_NOTATION, notation)
+        .set(PRICE_CURRENCY, "USD");
     message
 }
 
@@ -149,12 +161,12 @@ pub fn plain_package(notation: &str, price: &str) -> Message {
 pub fn plain_short(action: &str, event: Option<&str>) -> Message {
     let mut message = Message::default();
     message
-        .set(1, plain_new().value(1))
-        .set(2, action)
-        .set(4, "2024-04-01T09:00:00Z")
-        .set(5, "2024-04-01T09:05:00Z");
+        .set(UTI, uti_of(1))
+        .set(ACTION_TYPE, action)
+        .set(EVENT_TIMESTAMP, "2024-04-01T09:00:00Z")
+        .set(REPORTING_TIMESTAMP, "2024-04-01T09:05:00Z");
     if let Some(event) = event {
-        message.set(3, event);
+        message.set(EVENT_TYPE, event);
     }
     message
 }

@@ -1,6 +1,6 @@
 //! Counts of what was asked and answered.
 
-use crate::message::LAST_CODE;
+use crate::lists::LAST_CODE;
 use crate::order::{HIGHEST_VERDICT, OPENING, SUBMITTING};
 use sdr::{Answer, ACCEPTED};
 use std::fmt;

@@ -1,39 +1,19 @@
 //! What a line shows: the masked notional, the price, the masked terms.
 
 use crate::layout::*;
+use crate::lists::*;
 use crate::message::Message;
 use std::ops::Range;
 
-/// The asset classes, in the order of the caps.
-pub const CLASSES: [&str; 5] = ["CR", "IR", "FX", "EQ", "CO"];
-
-/// Digits after the point that code 20 can have.
-const AFTER_POINT: usize = 5;
-/// One unit of currency, counted in the last place that code 20 can have.
-const UNIT: u128 = 100_000;
-
-/// The bands: amounts below the first number are rounded to the second.
-const BANDS: [(u128, u128); 8] = [
-    (1_000, 5),
-    (10_000, 100),
-    (100_000, 1_000),
-    (1_000_000, 10_000),
-    (100_000_000, 1_000_000),
-    (500_000_000, 10_000_000),
-    (1_000_000_000, 50_000_000),
-    (100_000_000_000, 1_000_000_000),
-];
-/// Larger amounts are rounded to this.
-const LARGEST_STEP: u128 = 50_000_000_000;
-/// The lowest amount shown.
-const LEAST_SHOWN: u128 = 5;
+/// One unit of currency, counted in the last place that a notional can have.
+pub const UNIT: u128 = 10u128.pow(NOTIONAL_NUM.after_point as u32);
 
 /// A sound amount, counted in units of its last possible place.
 pub fn exact(amount: &[u8]) -> u128 {
     let mut parts = amount.splitn(2, |&byte| byte == b'.');
     let mut digits = parts.next().unwrap_or_default().to_vec();
     let mut after = parts.next().unwrap_or_default().to_vec();
-    after.resize(AFTER_POINT, b'0');
+    after.resize(NOTIONAL_NUM.after_point, b'0');
     digits.append(&mut after);
     digits
         .iter()
@@ -42,17 +22,15 @@ pub fn exact(amount: &[u8]) -> u128 {
 
 /// What an exact amount is rounded to.
 fn step(exact: u128) -> u128 {
-    BANDS
-        .iter()
-        .find(|band| exact < band.0 * UNIT)
-        .map_or(LARGEST_STEP, |band| band.1)
+    let band = BANDS.iter().find(|band| exact < u128::from(band.0) * UNIT);
+    band.map_or(LARGEST_STEP, |band| band.1).into()
 }
 
 /// The rounded amount, in units of currency.
 pub fn rounded(exact: u128) -> u128 {
     let step = step(exact);
     let steps = (2 * exact + step * UNIT) / (2 * step * UNIT);
-    (steps * step).max(LEAST_SHOWN)
+    (steps * step).max(LEAST_SHOWN.into())
 }
 
 /// The amount shown and whether a plus sign follows.
@@ -83,52 +61,64 @@ pub fn shown_price(price: &[u8]) -> Vec<u8> {
     format!("{minus}{whole}{point}{after}").into_bytes()
 }
 
-/// Whether a value of code 15 says true.
+/// Whether a truth says true.
 pub fn is_true(value: &[u8]) -> bool {
-    matches!(value, b"True" | b"true")
+    TRUE.iter().any(|word| word.as_bytes() == value)
+}
+
+/// Whether the message is one of a package.
+pub fn is_package(message: &Message) -> bool {
+    is_true(message.value(PACKAGE_INDICATOR))
+}
+
+/// Whether an element has this value.
+pub fn says(message: &Message, code: u8, value: &str) -> bool {
+    message.value(code) == value.as_bytes()
 }
 
 /// Whether the element's "if" is met or it has none.
 pub fn applies(message: &Message, code: u8) -> bool {
-    let package = is_true(message.value(15));
     match code {
-        11 => message.value(10) == b"N",
-        16..=18 => package,
-        19 => package && message.value(18) == b"1",
+        NON_STANDARDIZED_TERM => says(message, CLEARED, NOT_CLEARED),
+        PACKAGE_IDENTIFIER | PACKAGE_PRICE | PRICE_NOTATION => is_package(message),
+        PRICE_CURRENCY => is_package(message) && says(message, PRICE_NOTATION, MONETARY),
         _ => true,
     }
 }
 
 /// The cap of the message's asset class.
-fn cap_of(message: &Message, caps: &[u64; 5]) -> u64 {
-    let class = message.value(25);
-    let place = CLASSES.iter().position(|name| name.as_bytes() == class);
+pub fn cap_of(message: &Message, caps: &Caps) -> u64 {
+    let of_message = |class: &&str| says(message, ASSET_CLASS, class);
+    let place = CLASSES.iter().position(of_message);
     caps[place.expect("a sound asset class")]
 }
 
 /// The masked terms of a sound full message.
-pub fn terms_of(message: &Message, caps: &[u64; 5]) -> [u8; TERMS_SIZE] {
-    let (amount, plus) = masked(message.value(20), cap_of(message, caps));
+pub fn terms_of(message: &Message, caps: &Caps) -> [u8; TERMS_SIZE] {
+    let (amount, plus) = masked(message.value(NOTIONAL_AMOUNT), cap_of(message, caps));
     let mut line = [b' '; LINE_SIZE];
     let mut put = |field: Range<usize>, text: &[u8]| {
         line[field][..text.len()].copy_from_slice(text);
     };
-    put(EXECUTION_IN_LINE, message.value(6));
-    put(EFFECTIVE_IN_LINE, message.value(7));
-    put(EXPIRATION_IN_LINE, message.value(8));
-    put(CLEARED_IN_LINE, message.value(10));
-    put(NON_STANDARDIZED_IN_LINE, shown_truth(message, 11));
-    put(BLOCK_IN_LINE, shown_truth(message, 12));
-    put(LARGE_IN_LINE, shown_truth(message, 13));
-    put(PACKAGE_IN_LINE, shown_truth(message, 15));
+    put(EXECUTION_IN_LINE, message.value(EXECUTION_TIMESTAMP));
+    put(EFFECTIVE_IN_LINE, message.value(EFFECTIVE_DATE));
+    put(EXPIRATION_IN_LINE, message.value(EXPIRATION_DATE));
+    put(CLEARED_IN_LINE, message.value(CLEARED));
+    put(
+        NON_STANDARDIZED_IN_LINE,
+        shown_truth(message, NON_STANDARDIZED_TERM),
+    );
+    put(BLOCK_IN_LINE, shown_truth(message, BLOCK_ELECTION));
+    put(LARGE_IN_LINE, shown_truth(message, LARGE_NOTIONAL_ELECTION));
+    put(PACKAGE_IN_LINE, shown_truth(message, PACKAGE_INDICATOR));
     put(PRICE_IN_LINE, &price_of(message));
-    put(NOTATION_IN_LINE, shown(message, 18));
-    put(PRICE_CURRENCY_IN_LINE, shown(message, 19));
-    put(CLASS_IN_LINE, message.value(25));
+    put(NOTATION_IN_LINE, shown(message, PRICE_NOTATION));
+    put(PRICE_CURRENCY_IN_LINE, shown(message, PRICE_CURRENCY));
+    put(CLASS_IN_LINE, message.value(ASSET_CLASS));
     put(NOTIONAL_IN_LINE, &digits(amount, NOTIONAL_SIZE));
     put(PLUS_IN_LINE, if plus { b"+" } else { b"" });
-    put(NOTIONAL_CURRENCY_IN_LINE, message.value(21));
-    put(LOCATION_IN_LINE, message.value(22));
+    put(NOTIONAL_CURRENCY_IN_LINE, message.value(NOTIONAL_CURRENCY));
+    put(LOCATION_IN_LINE, message.value(SETTLEMENT_LOCATION));
     line[TERMS_IN_LINE].try_into().expect("the terms' size")
 }
 
@@ -155,7 +145,7 @@ fn shown_truth(message: &Message, code: u8) -> &'static [u8] {
 }
 
 fn price_of(message: &Message) -> Vec<u8> {
-    match shown(message, 17) {
+    match shown(message, PACKAGE_PRICE) {
         b"" => Vec::new(),
         price => shown_price(price),
     }
@@ -173,11 +163,11 @@ pub fn line_of(
     if let Some(previous) = previous {
         line[PREVIOUS_IN_LINE].copy_from_slice(&digits(previous, IDENTIFIER_DIGITS));
     }
-    line[ACTION_IN_LINE].copy_from_slice(message.value(2));
-    if let Some(event) = message.get(3) {
+    line[ACTION_IN_LINE].copy_from_slice(message.value(ACTION_TYPE));
+    if let Some(event) = message.get(EVENT_TYPE) {
         line[EVENT_IN_LINE].copy_from_slice(event);
     }
-    line[EVENT_TIME_IN_LINE].copy_from_slice(message.value(4));
+    line[EVENT_TIME_IN_LINE].copy_from_slice(message.value(EVENT_TIMESTAMP));
     line[TERMS_IN_LINE].copy_from_slice(terms);
     line[NEWLINE_IN_LINE].copy_from_slice(b"\n");
     line

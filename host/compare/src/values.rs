@@ -1,8 +1,11 @@
 //! Random values that keep their form.
 
-use crate::layout::{LINE_SIZE, UTI_SIZE};
+use crate::layout::{Caps, Num, CURRENCY_SIZE, DATE_SIZE, DAY_CAPS, LEI_BODY_SIZE, LINE_SIZE};
+use crate::layout::{LARGEST_CAP, LOCATION_SIZE, LONGEST_PACKAGE_IDENTIFIER, NOTIONAL_NUM};
+use crate::layout::{NOTIONAL_SIZE, SHORTEST_UTI, SMALLEST_CAP, UTI_SIZE};
+use crate::lists::{BANDS, CLASSES, LARGEST_STEP};
 use crate::random::Random;
-use crate::terms::{masked, rounded};
+use crate::terms::{masked, rounded, UNIT};
 
 /// Capitals and digits.
 pub const CAPITALS_DIGITS: &[u8] = b"ABCDEFGHIJKLMNOPQRSTUVWXYZ0123456789";
@@ -12,41 +15,9 @@ pub const CAPITALS: &[u8] = b"ABCDEFGHIJKLMNOPQRSTUVWXYZ";
 pub const LETTERS_DIGITS: &[u8] = b"ABCDEFGHIJKLMNOPQRSTUVWXYZabcdefghijklmnopqrstuvwxyz0123456789";
 /// Digits.
 pub const DIGITS: &[u8] = b"0123456789";
-/// The truths.
-pub const TRUTHS: [&str; 4] = ["True", "False", "true", "false"];
-
-/// Where the rounding of amounts changes: bounds of bands and some ties.
-const LANDMARKS: [u64; 24] = [
-    0,
-    5,
-    995,
-    1_000,
-    1_050,
-    9_950,
-    10_000,
-    10_500,
-    99_500,
-    100_000,
-    105_000,
-    995_000,
-    1_000_000,
-    1_500_000,
-    99_500_000,
-    100_000_000,
-    105_000_000,
-    500_000_000,
-    525_000_000,
-    1_000_000_000,
-    1_500_000_000,
-    100_000_000_000,
-    125_000_000_000,
-    1_000_000_000_000_000,
-];
 
 /// The most bytes behind the line in a tape buffer.
 const SPARE: usize = 50;
-/// The shortest UTI.
-const SHORTEST_UTI: usize = 21;
 
 /// The length of a tape buffer that takes a line.
 pub fn tape_length(random: &mut Random) -> usize {
@@ -63,7 +34,14 @@ pub fn any_tape_length(random: &mut Random) -> usize {
 
 /// A UTI, often of a length at a bound.
 pub fn uti(random: &mut Random) -> Vec<u8> {
-    let length = *random.pick(&[SHORTEST_UTI, 22, 35, 42, 51, UTI_SIZE]);
+    let length = *random.pick(&[
+        SHORTEST_UTI,
+        SHORTEST_UTI + 1,
+        35,
+        42,
+        UTI_SIZE - 1,
+        UTI_SIZE,
+    ]);
     random.text(length, CAPITALS_DIGITS)
 }
 
@@ -96,18 +74,18 @@ pub fn similar_uti(random: &mut Random, other: &[u8]) -> Vec<u8> {
     uti
 }
 
-/// A LEI with the check digits that its first 18 characters need.
+/// A LEI with the check digits that its other characters need.
 pub fn lei(random: &mut Random) -> Vec<u8> {
-    let body = random.text(18, CAPITALS_DIGITS);
+    let body = random.text(LEI_BODY_SIZE, CAPITALS_DIGITS);
     lei_of(&body)
 }
 
-/// The LEI that opens with these 18 characters.
+/// The LEI that opens with these characters.
 pub fn lei_of(body: &[u8]) -> Vec<u8> {
     let mut lei = body.to_vec();
     lei.extend(b"00");
     let check = 98 - remainder(&lei);
-    lei.truncate(18);
+    lei.truncate(body.len());
     lei.extend(format!("{check:02}").as_bytes());
     lei
 }
@@ -183,7 +161,7 @@ fn clock(random: &mut Random) -> Vec<u8> {
 pub fn time_from(random: &mut Random, earliest: &[u8]) -> Vec<u8> {
     let mut other = time(random);
     if random.once_in(3) {
-        other[..10].copy_from_slice(&earliest[..10]);
+        other[..DATE_SIZE].copy_from_slice(&earliest[..DATE_SIZE]);
     }
     if other.as_slice() >= earliest && !random.once_in(5) {
         return other;
@@ -191,13 +169,30 @@ pub fn time_from(random: &mut Random, earliest: &[u8]) -> Vec<u8> {
     earliest.to_vec()
 }
 
-/// An amount that keeps the form of code 20.
+/// A currency.
+pub fn currency(random: &mut Random) -> Vec<u8> {
+    random.text(CURRENCY_SIZE, CAPITALS)
+}
+
+/// A settlement location.
+pub fn location(random: &mut Random) -> Vec<u8> {
+    random.text(LOCATION_SIZE, CAPITALS)
+}
+
+/// A package identifier, often of a length at a bound.
+pub fn package_identifier(random: &mut Random) -> Vec<u8> {
+    let longest = LONGEST_PACKAGE_IDENTIFIER;
+    let length = *random.pick(&[1, 2, 20, longest - 1, longest]);
+    random.text(length, LETTERS_DIGITS)
+}
+
+/// An amount that keeps the form of a notional.
 pub fn amount(random: &mut Random) -> Vec<u8> {
     match random.below(4) {
         0 => any_amount(random),
         1 => amount_beside_landmark(random),
         _ => {
-            let digits = random.between(1, 16);
+            let digits = random.between(1, NOTIONAL_SIZE);
             with_decimals(random, digits)
         }
     }
@@ -205,8 +200,8 @@ pub fn amount(random: &mut Random) -> Vec<u8> {
 
 /// An amount of any length that the form allows.
 fn any_amount(random: &mut Random) -> Vec<u8> {
-    let digits = random.between(1, 25);
-    if digits <= 20 {
+    let digits = random.between(1, NOTIONAL_NUM.digits);
+    if digits + NOTIONAL_NUM.after_point <= NOTIONAL_NUM.digits {
         return with_decimals(random, digits);
     }
     random.text(digits, DIGITS)
@@ -216,15 +211,31 @@ fn with_decimals(random: &mut Random, digits: usize) -> Vec<u8> {
     let mut text = random.text(digits, DIGITS);
     if random.once_in(2) {
         text.push(b'.');
-        let after = random.between(1, 5);
+        let after = random.between(1, NOTIONAL_NUM.after_point);
         text.extend(random.text(after, DIGITS));
     }
     text
 }
 
+/// Where the rounding of amounts changes: a band's end, or a tie before or
+/// after it; or another amount of interest.
+fn landmark(random: &mut Random) -> u64 {
+    let at = random.below(BANDS.len());
+    let (end, step) = BANDS[at];
+    let next_step = BANDS.get(at + 1).map_or(LARGEST_STEP, |band| band.1);
+    *random.pick(&[
+        0,
+        step,
+        end - step / 2,
+        end,
+        end + next_step / 2,
+        LARGEST_CAP,
+    ])
+}
+
 /// A landmark, or an amount 0.00001 or 1 beside it.
 fn amount_beside_landmark(random: &mut Random) -> Vec<u8> {
-    let landmark = *random.pick(&LANDMARKS);
+    let landmark = landmark(random);
     let below = landmark.saturating_sub(1);
     match random.below(6) {
         0 => format!("{below}.99999"),
@@ -262,18 +273,19 @@ fn beside(random: &mut Random, shown: (u64, bool)) -> Vec<u8> {
     } else {
         number - distance
     };
-    format!("{other}.{}", random.below(100_000)).into_bytes()
+    format!("{other}.{}", random.below(UNIT as usize)).into_bytes()
 }
 
 /// Whether an amount that one of the generators made keeps its form.
 fn is_notional(amount: &[u8]) -> bool {
     let digits = amount.iter().filter(|byte| byte.is_ascii_digit()).count();
     let point = amount.iter().position(|&byte| byte == b'.');
-    digits <= 25 && point.map_or(0, |at| amount.len() - at - 1) <= 5
+    let after = point.map_or(0, |at| amount.len() - at - 1);
+    digits <= NOTIONAL_NUM.digits && after <= NOTIONAL_NUM.after_point
 }
 
-/// A price of at most so many digits and so many after the point.
-pub fn price(random: &mut Random, most: usize, most_after: usize) -> Vec<u8> {
+/// A price of at most so many digits.
+pub fn price(random: &mut Random, most: Num) -> Vec<u8> {
     let mut text = Vec::new();
     if random.once_in(3) {
         text.push(b'-');
@@ -281,9 +293,9 @@ pub fn price(random: &mut Random, most: usize, most_after: usize) -> Vec<u8> {
     let after = if random.once_in(4) {
         0
     } else {
-        random.between(1, most_after)
+        random.between(1, most.after_point)
     };
-    let whole = random.between(1, most - after);
+    let whole = random.between(1, most.digits - after);
     let alphabet: &[u8] = if random.once_in(3) { b"00001" } else { DIGITS };
     text.extend(random.text(whole, alphabet));
     if after > 0 {
@@ -293,21 +305,27 @@ pub fn price(random: &mut Random, most: usize, most_after: usize) -> Vec<u8> {
     text
 }
 
-/// A cap: a number from 1,000 to 1,000,000,000,000,000 that is its own
-/// rounded amount.
+/// A cap: a number in the range of caps that is its own rounded amount.
 pub fn cap(random: &mut Random) -> u64 {
-    let digits = random.between(4, 15) as u32;
-    let number = 10u64.pow(digits - 1) + random.bits() % (9 * 10u64.pow(digits - 1));
-    let rounded = rounded(u128::from(number) * 100_000);
-    u64::try_from(rounded).expect("a number of at most 16 digits")
+    let places = LARGEST_CAP.ilog10() - SMALLEST_CAP.ilog10();
+    let least = SMALLEST_CAP * 10u64.pow(random.below(places as usize) as u32);
+    let number = least + random.bits() % (9 * least);
+    let rounded = rounded(u128::from(number) * UNIT);
+    u64::try_from(rounded).expect("a number that is no larger than the largest cap")
 }
 
 /// Five caps, most often different.
-pub fn caps(random: &mut Random) -> [u64; 5] {
+pub fn caps(random: &mut Random) -> Caps {
     match random.below(5) {
-        0 => [1_000_000_000_000_000; 5],
-        1 => [250_000_000; 5],
-        2 => [1_000, 250_000_000, 10_000, 1_000_000_000, 100_000_000_000],
+        0 => [LARGEST_CAP; CLASSES.len()],
+        1 => DAY_CAPS,
+        2 => [
+            SMALLEST_CAP,
+            250_000_000,
+            10_000,
+            1_000_000_000,
+            100_000_000_000,
+        ],
         _ => std::array::from_fn(|_| cap(random)),
     }
 }

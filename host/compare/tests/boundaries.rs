@@ -2,28 +2,25 @@
 //! step to each side. What is expected is derived by hand.
 
 use compare::compared::Compared;
-use compare::layout::{self, ledger_size, row_range, Header, Row, CAPACITY_IN_HEADER, HEADER_SIZE};
+use compare::layout::{self, ledger_size, Caps, Header, Row, CAPACITY_IN_HEADER, HEADER_SIZE};
+use compare::layout::{row_range, IDENTIFIER_IN_ROW, ROWS_IN_HEADER, TERMS_IN_LINE, UTI_IN_ROW};
 use compare::layout::{CLASS_IN_LINE, IDENTIFIER_IN_LINE, NEWLINE_IN_LINE, NOTIONAL_IN_LINE};
-use compare::layout::{IDENTIFIER_IN_ROW, ROWS_IN_HEADER, TERMS_IN_LINE, UTI_IN_ROW};
-use compare::layout::{IDENTIFIER_LIMIT, LARGEST_CAPACITY, LINE_SIZE, NEXT_IN_HEADER};
-use compare::layout::{NOTIONAL_SIZE, SHORTEST_LEDGER, UTI_SIZE};
+use compare::layout::{DAY_CAPS, IDENTIFIER_LIMIT, LARGEST_CAP, LARGEST_CAPACITY, LINE_SIZE};
+use compare::layout::{LONGEST_MESSAGE, LONGEST_PACKAGE_IDENTIFIER, NEXT_IN_HEADER};
+use compare::layout::{NOTIONAL_SIZE, SHORTEST_LEDGER, SHORTEST_UTI, SMALLEST_CAP, UTI_SIZE};
 use compare::layout::{PLUS_IN_LINE, PREVIOUS_IN_LINE, PRICE_IN_LINE, PRICE_SIZE};
-use compare::message::{Message, LAST_CODE, LONGEST_MESSAGE};
-use compare::sound::{plain_new, plain_package, plain_short};
-use compare::terms::{terms_of, CLASSES};
+use compare::lists::{CLASSES, LAST_CODE};
+use compare::message::Message;
+use compare::sound::{plain_new, plain_package, plain_short, swap};
+use compare::terms::terms_of;
 use compare::values::{lei_of, remainder};
 use sdr::Answer;
 
-const CAPS: [u64; 5] = [250_000_000; 5];
-const LARGEST_CAP: u64 = 1_000_000_000_000_000;
+const CAPS: Caps = DAY_CAPS;
 
 /// A fresh ledger of two rows and a tape buffer.
-fn opened(caps: [u64; 5]) -> Compared {
-    let mut compared = Compared::new();
-    compared.set_ledger(&vec![0xee; ledger_size(2)]);
-    compared.set_tape(&[b'x'; LINE_SIZE]);
-    assert_eq!(compared.open(&caps).verdict, 0);
-    compared
+fn opened(caps: Caps) -> Compared {
+    Compared::opened(2, &caps)
 }
 
 /// Verdict and element of one message on a fresh ledger.
@@ -41,8 +38,8 @@ fn lengths_of_a_uti() {
     let mut compared = opened(CAPS);
     for (length, due) in [
         (1, (9, 1)),
-        (20, (9, 1)),
-        (21, (0, 0)),
+        (SHORTEST_UTI - 1, (9, 1)),
+        (SHORTEST_UTI, (0, 0)),
         (UTI_SIZE, (0, 0)),
         (UTI_SIZE + 1, (9, 1)),
     ] {
@@ -171,8 +168,9 @@ fn lengths_of_a_package_identifier() {
     };
     assert_eq!(judged(&package(0)), (5, 0));
     assert_eq!(judged(&package(1)), (0, 0));
-    assert_eq!(judged(&package(100)), (0, 0));
-    assert_eq!(judged(&package(101)), (9, 16));
+    let longest = LONGEST_PACKAGE_IDENTIFIER;
+    assert_eq!(judged(&package(longest)), (0, 0));
+    assert_eq!(judged(&package(longest + 1)), (9, 16));
 }
 
 #[test]
@@ -326,7 +324,9 @@ fn terms_as_shown() {
 
 /// What a line shows for an amount of interest rate swaps under a cap.
 fn shown(amount: &str, cap: u64) -> (u64, char) {
-    let mut compared = opened([1_000, cap, 1_000, 1_000, 1_000]);
+    let mut caps = [SMALLEST_CAP; CLASSES.len()];
+    caps[1] = cap;
+    let mut compared = opened(caps);
     let answer = compared.submit(&plain_new().with(20, amount).encode());
     assert_eq!(answer.verdict, 0, "{amount}");
     let text = String::from_utf8_lossy(&compared.tape()[NOTIONAL_IN_LINE]).into_owned();
@@ -513,7 +513,7 @@ fn caps_at_opening() {
     ];
     let cases = sound.map(|cap| (cap, 0)).into_iter();
     for (cap, due) in cases.chain(wrong.map(|cap| (cap, 2))) {
-        for place in 0..5 {
+        for place in 0..CLASSES.len() {
             let mut compared = Compared::new();
             compared.set_ledger(&vec![0xee; ledger_size(1)]);
             let mut caps = CAPS;
@@ -686,7 +686,7 @@ fn lengths_of_a_ledger() {
             assert_eq!(written as usize, capacity, "{length}");
             let behind = &compared.ledger()[HEADER_SIZE..];
             assert!(behind.iter().all(|&byte| byte == 0xee));
-            assert_eq!(compared.status(&[b'A'; 21]), Answer::default());
+            assert_eq!(compared.status(&[b'A'; SHORTEST_UTI]), Answer::default());
         }
     }
 }
@@ -715,10 +715,6 @@ fn rows_up_to_capacity() {
         // Rows equal to capacity are no fault of the header.
         assert_eq!(compared.status(swap(0).value(1)).verdict, 0);
     }
-}
-
-fn swap(n: u64) -> Message {
-    plain_new().with(1, format!("1000000000SWAP{n:010}"))
 }
 
 /// A ledger of two rows in which the plain swap is live.

@@ -2,13 +2,16 @@
 //! is that of the first in checking order, with the lowest element at fault.
 
 use compare::compared::Compared;
-use compare::faults::{self, Case, Fault, LAST_SHORT};
-use compare::faults::{CONDITIONAL, NEEDED_BY_ALL, NEEDED_BY_FULL};
+use compare::faults::{self, Case, Fault};
 use compare::layout::{ledger_size, HEADER_SIZE, SHORTEST_LEDGER};
+use compare::lists::{
+    codes, codes_of_full_messages, codes_with_a_form, takes, ACTIONS, ACTION_TYPE,
+};
+use compare::lists::{CLASSES, CONDITIONAL, NEEDED_BY_ALL, NEEDED_BY_FULL};
 use compare::malformed;
-use compare::matrix::{is_full, ACTIONS};
-use compare::message::{described, LAST_CODE};
-use compare::order::SUBMITTING;
+use compare::matrix::writes_line;
+use compare::message::described;
+use compare::order::{OPENING, SUBMITTING};
 use compare::random::Random;
 use compare::tally::Tally;
 use compare::{submissions, values};
@@ -27,7 +30,7 @@ fn submit(compared: &mut Compared, case: &Case, due: (u8, u8), text: &str) {
     let answer = compared.submit(&message);
     let text = format!("{text}\n{}", described(&message));
     assert_eq!((answer.verdict, answer.element), due, "{text}");
-    let line_due = due.0 == 0 && case.message.value(2) != b"PRTO";
+    let line_due = due.0 == 0 && writes_line(&case.message.text(ACTION_TYPE));
     let identifier = if line_due { case.header.next } else { 0 };
     assert_eq!(answer.identifier, identifier, "{text}");
 }
@@ -103,12 +106,7 @@ fn every_malformed_value() {
     let mut random = Random::for_test(105);
     let mut compared = Compared::new();
     for action in ACTIONS {
-        let last = if is_full(action) {
-            LAST_CODE
-        } else {
-            LAST_SHORT
-        };
-        for code in 1..=last {
+        for code in codes().filter(|&code| takes(action, code)) {
             for value in malformed::values(code) {
                 let mut case = Case::sound(&mut random, action);
                 case.message.set(code, &value);
@@ -123,7 +121,7 @@ fn every_malformed_value() {
         }
     }
     println!("malformed values: {}", compared.tally);
-    for code in (1..=LAST_CODE).filter(|&code| code != 2) {
+    for code in codes_with_a_form() {
         assert!(compared.tally.element(9, code) >= 4, "9 with {code}");
     }
 }
@@ -132,15 +130,17 @@ fn every_malformed_value() {
 fn opening_refuses_1_before_2() {
     let mut random = Random::for_test(106);
     let mut compared = Compared::new();
-    let wrong = [0, 995, 1_050, 250_400_000, 1_000_000_000_000_001, u64::MAX];
     let about_the_header = [HEADER_SIZE - 1, HEADER_SIZE, HEADER_SIZE + 1];
     for length in [&[0, 1], &about_the_header[..], &[SHORTEST_LEDGER - 1]].concat() {
         compared.set_ledger(&random.bytes(length));
         assert_eq!(compared.open(&values::caps(&mut random)).verdict, 1);
-        assert_eq!(compared.open(&[wrong[0]; 5]).verdict, 1);
+        assert_eq!(
+            compared.open(&[malformed::CAPS[0]; CLASSES.len()]).verdict,
+            1
+        );
     }
-    for place in 0..5 {
-        for cap in wrong {
+    for place in 0..CLASSES.len() {
+        for cap in malformed::CAPS {
             compared.set_ledger(&random.bytes(ledger_size(2)));
             let mut caps = values::caps(&mut random);
             caps[place] = cap;
@@ -150,7 +150,8 @@ fn opening_refuses_1_before_2() {
     compared.set_ledger(&random.bytes(ledger_size(2)));
     assert_eq!(compared.open(&values::caps(&mut random)).verdict, 0);
     println!("opening: {}", compared.tally);
-    assert!((0..=2).all(|verdict| compared.tally.verdict(verdict) > 0));
+    every_verdict_was_met(&compared.tally, &OPENING);
+    assert!(compared.tally.verdict(0) > 0);
 }
 
 fn every_verdict_was_met(tally: &Tally, verdicts: &[u8]) {
@@ -165,10 +166,10 @@ fn every_element_was_met(tally: &Tally) {
     for code in NEEDED_BY_ALL.into_iter().chain(NEEDED_BY_FULL) {
         assert!(tally.element(7, code) > 0, "7 with {code}");
     }
-    for code in LAST_SHORT + 1..=LAST_CODE {
+    for code in codes_of_full_messages() {
         assert!(tally.element(8, code) > 0, "8 with {code}");
     }
-    for code in (1..=LAST_CODE).filter(|&code| code != 2) {
+    for code in codes_with_a_form() {
         assert!(tally.element(9, code) > 0, "9 with {code}");
     }
     for code in CONDITIONAL {

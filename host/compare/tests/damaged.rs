@@ -3,9 +3,11 @@
 use compare::compared::Compared;
 use compare::cycles::{next_message, Model};
 use compare::garbage::flip;
-use compare::layout::{self, ledger_size, Header, Row, EXECUTION_IN_TERMS, HEADER_SIZE};
+use compare::layout::{self, ledger_size, Caps, Header, Row, EXECUTION_IN_TERMS, HEADER_SIZE};
 use compare::layout::{IDENTIFIER_LIMIT, LARGEST_CAPACITY, LINE_SIZE, PREVIOUS_IN_LINE};
-use compare::layout::{ROW_SIZE, SHORTEST_LEDGER, TERMS_IN_LINE, UTI_SIZE};
+use compare::layout::{ROW_SIZE, SHORTEST_LEDGER, TAIL_SIZE, TERMS_IN_LINE, UTI_SIZE};
+use compare::lists::CLASSES;
+use compare::malformed;
 use compare::message::Message;
 use compare::random::Random;
 use compare::sound::{plain_new, plain_short};
@@ -13,20 +15,8 @@ use compare::terms::terms_of;
 use compare::{submissions, values};
 use sdr::{Answer, CLOSED, ERRORED, LIVE, UNKNOWN};
 
-const CAPS: [u64; 5] = [1_000, 250_000_000, 100_000, 1_000_000_000, 150_000_000_000];
+const CAPS: Caps = [1_000, 250_000_000, 100_000, 1_000_000_000, 150_000_000_000];
 const NEXT: u64 = 40;
-/// Caps that are out of range or not their own rounded amount.
-const WRONG_CAPS: [u64; 9] = [
-    0,
-    995,
-    999,
-    1_050,
-    250_400_000,
-    999_999_999_999_999,
-    1_000_000_000_000_001,
-    1_000_050_000_000_000,
-    u64::MAX,
-];
 
 fn header(length: usize) -> Header {
     let mut header = Header::opened(length, CAPS);
@@ -111,8 +101,8 @@ fn each_field_of_the_header() {
     for capacity in [0, 3, 4, 6, 5 << 8, LARGEST_CAPACITY as u32, u32::MAX] {
         add(&|header| header.capacity = capacity);
     }
-    for class in 0..5 {
-        for cap in WRONG_CAPS {
+    for class in 0..CLASSES.len() {
+        for cap in malformed::CAPS {
             add(&|header| header.caps[class] = cap);
         }
     }
@@ -244,7 +234,7 @@ fn every_byte_of_a_uti_is_compared() {
 #[test]
 fn padding_terms_and_tail_are_not_judged() {
     assert_eq!(verdicts_with(|row| row.uti[24..].fill(b'Z')), (0, 0));
-    assert_eq!(verdicts_with(|row| row.tail = [1, 2, 3, 4, 5]), (0, 0));
+    assert_eq!(verdicts_with(|row| row.tail = [1; TAIL_SIZE]), (0, 0));
     assert_eq!(
         verdicts_with(|row| row.terms[EXECUTION_IN_TERMS.end..].fill(0xff)),
         (0, 0)
@@ -261,7 +251,7 @@ fn a_change_leaves_padding_and_tail() {
     let length = ledger_size(5);
     let mut rows = rows();
     rows[1].uti[24..].fill(b'Z');
-    rows[1].tail = [9, 8, 7, 6, 5];
+    rows[1].tail = [9; TAIL_SIZE];
     rows[1].terms[EXECUTION_IN_TERMS.end..].fill(0xff);
     rows[1].status = CLOSED;
     for (message, status) in [

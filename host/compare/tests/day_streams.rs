@@ -4,8 +4,8 @@
 use checker::day::report;
 use compare::calls::{Calls, Library};
 use compare::dayrun::{check, check_lines, program, Running, Temporary};
-use compare::days::{self, framed, new_swap, of_length, overlong, random_day, LENGTH_SIZE};
-use compare::message::LONGEST_MESSAGE;
+use compare::days::{self, framed, new_swap, of_length, overlong, random_day};
+use compare::layout::{LARGEST_LENGTH, LENGTH_SIZE, LONGEST_MESSAGE};
 use compare::random::Random;
 use std::fs::File;
 use std::process::{Command, Stdio};
@@ -117,9 +117,9 @@ fn lines_come_from_a_socket_where_a_buffer_is_just_full() {
 
 #[test]
 fn lines_come_while_an_overlong_message_is_half_sent() {
-    for length in [LONGEST_MESSAGE + 1, 30_000, 65_535] {
+    for length in [LONGEST_MESSAGE + 1, 30_000, LARGEST_LENGTH] {
         let before = of_length(1_000);
-        let start = before.len() + 2;
+        let start = before.len() + LENGTH_SIZE;
         let long = framed(&overlong(length));
         let day = [before, long, framed(&new_swap(0)), framed(&[])].concat();
         for part in [0, 1, LONGEST_MESSAGE - 1, LONGEST_MESSAGE, length - 1] {
@@ -132,7 +132,7 @@ fn lines_come_while_an_overlong_message_is_half_sent() {
 
 #[test]
 fn lines_come_between_overlong_messages() {
-    let long = framed(&overlong(65_535));
+    let long = framed(&overlong(LARGEST_LENGTH));
     let day = [
         framed(&new_swap(0)),
         long.repeat(3),
@@ -140,7 +140,7 @@ fn lines_come_between_overlong_messages() {
         long,
     ]
     .concat();
-    let first = 2 + new_swap(0).len();
+    let first = framed(&new_swap(0)).len();
     let stops: Vec<usize> = (0..20).map(|n| first + n * 16_384).collect();
     check_stops(&day, &stops, "overlong messages");
 }
@@ -190,7 +190,7 @@ fn calls_are_few() {
     for count in [10_000, 32_768, 200_000] {
         check_calls(&library, &vec![0; 2 * count], "length 0");
     }
-    for length in [LONGEST_MESSAGE + 1, 65_535] {
+    for length in [LONGEST_MESSAGE + 1, LARGEST_LENGTH] {
         let day = framed(&overlong(length)).repeat(2_000_000 / length);
         check_calls(&library, &day, "overlong messages");
     }
@@ -219,7 +219,7 @@ fn reads_that_give_less_than_was_asked_for() {
     for size in sizes {
         let small = if size.len() == 1 { 60 } else { 700 };
         let mut day = random_day(&mut random, small);
-        day.extend(framed(&overlong(65_535)));
+        day.extend(framed(&overlong(LARGEST_LENGTH)));
         day.extend(of_length(3_000));
         let file = Temporary::holding(&day);
         let mut command = on_file(&file);

@@ -3,12 +3,13 @@
 
 use checker::day::report;
 use compare::dayrun::{check, check_lines, from_file, from_pieces};
-use compare::days::{self, framed, new_swap, of_length, overlong, random_day, wild_day};
-use compare::layout::DAY_ROWS;
-use compare::message::{Message, LONGEST_MESSAGE};
+use compare::days::{self, framed, messages_end, new_swap, of_length, overlong};
+use compare::days::{random_day, wild_day};
+use compare::layout::{DAY_ROWS, LARGEST_LENGTH, LENGTH_SIZE, LONGEST_MESSAGE};
+use compare::message::Message;
 use compare::order;
 use compare::random::Random;
-use compare::sound::{plain_new, plain_short};
+use compare::sound::{plain_new, plain_short, uti_of};
 use compare::submissions;
 use compare::tally::Tally;
 use sdr::Answer;
@@ -31,7 +32,7 @@ fn check_file(day: &[u8], due: &[u8], what: &str) {
 }
 
 #[test]
-fn the_example_of_the_paper() {
+fn the_example_of_the_specification() {
     let day = [0x02, 0x00, 0x00, 0x00];
     let due = b"message verdict element record\n1 6 2 0\nend 1 0\n";
     check_file(&day, due, "from a file");
@@ -93,7 +94,7 @@ fn a_day_cut_at_every_byte() {
     let published = [0, 0, 1, 1, 2, 2, 2, 2, 3];
     let (mut judged, mut end) = (0, 0);
     for cut in 0..=bytes.len() {
-        if judged < day.len() && cut == end + 2 + messages[judged].len() {
+        if judged < day.len() && cut == end + LENGTH_SIZE + messages[judged].len() {
             judged += 1;
             end = cut;
         }
@@ -121,7 +122,13 @@ fn the_longest_message_and_one_byte_more() {
 #[test]
 fn overlong_messages() {
     let longest = LONGEST_MESSAGE;
-    for length in [longest + 1, longest + 2, 4_096, 65_534, 65_535] {
+    for length in [
+        longest + 1,
+        longest + 2,
+        4_096,
+        LARGEST_LENGTH - 1,
+        LARGEST_LENGTH,
+    ] {
         let one = framed(&overlong(length));
         let three = [one.clone(), one.clone(), one.clone(), framed(&new_swap(1))].concat();
         let due = lines(&["1 5 0 0", "2 5 0 0", "3 5 0 0", "4 0 0 1", "end 4 1"]);
@@ -139,18 +146,19 @@ fn overlong_messages() {
 fn a_swap_too_many_finds_no_row() {
     let mut day = Vec::new();
     let mut due = String::from("message verdict element record\n");
-    for swap in 1..=DAY_ROWS {
+    let rows = DAY_ROWS as u64;
+    for swap in 1..=rows {
         day.extend(framed(&new_swap(swap)));
         due += &format!("{swap} 0 0 {swap}\n");
     }
-    let (more, last) = (DAY_ROWS + 1, DAY_ROWS + 2);
+    let (more, last) = (rows + 1, rows + 2);
     day.extend(framed(&new_swap(more)));
     due += &format!("{more} 17 0 0\n");
-    let end = format!("{due}end {more} {DAY_ROWS}\n");
+    let end = format!("{due}end {more} {rows}\n");
     check_file(&day, end.as_bytes(), "a swap too many");
     // A swap that has a row goes on.
-    let known = format!("1000000000SWAP{DAY_ROWS:010}");
-    day.extend(framed(&plain_modi().with(1, known).encode()));
+    let known = plain_modi().with(1, uti_of(rows));
+    day.extend(framed(&known.encode()));
     let end = format!("{due}{last} 0 0 {more}\nend {last} {more}\n");
     check_file(&day, end.as_bytes(), "a swap too many and a MODI");
 }
@@ -208,15 +216,10 @@ fn random_days() {
         cuts += u32::from(messages_end(&day) < day.len());
     }
     println!("{number} random days, {cuts} of them cut: {tally}");
-    for verdict in [&[0], order::from_to(5, 13), &[15, 16, 17]].concat() {
+    for verdict in [&[0], order::of_the_message(), &[15, 16, 17]].concat() {
         assert!(tally.verdict(verdict) > 0, "verdict {verdict}");
     }
     assert!(cuts > 0 && cuts < number);
-}
-
-/// Where the last whole message ends.
-fn messages_end(day: &[u8]) -> usize {
-    days::messages(day).iter().map(|one| 2 + one.len()).sum()
 }
 
 /// A day of up to some thousand messages.
@@ -313,8 +316,14 @@ fn pieces_that_end_at_lengths_and_messages() {
     for _ in 0..6 {
         let day = random_day(&mut random, 400);
         let messages: Vec<usize> = days::messages(&day).iter().map(|one| one.len()).collect();
-        let apart = messages.iter().flat_map(|&length| [2, length]).collect();
-        let together = messages.iter().map(|&length| 2 + length).collect();
+        let apart = messages
+            .iter()
+            .flat_map(|&length| [LENGTH_SIZE, length])
+            .collect();
+        let together = messages
+            .iter()
+            .map(|&length| LENGTH_SIZE + length)
+            .collect();
         let inside = messages
             .iter()
             .flat_map(|&length| [1, 1 + length])

@@ -3,9 +3,9 @@
 
 use compare::compared::Compared;
 use compare::garbage::{noise, wild_message};
-use compare::layout::{ledger_size, Header, HEADER_SIZE, IDENTIFIER_LIMIT, LINE_SIZE, ROW_SIZE};
-use compare::matrix::ACTIONS;
-use compare::message::{LAST_CODE, LONGEST_MESSAGE};
+use compare::layout::{ledger_size, Header, DAY_CAPS, HEADER_SIZE, IDENTIFIER_LIMIT, LINE_SIZE};
+use compare::layout::{LONGEST_MESSAGE, ROW_SIZE};
+use compare::lists::{codes_with_a_form, ACTIONS};
 use compare::random::Random;
 use compare::sound::{self, plain_new, plain_package};
 use compare::{submissions, values};
@@ -57,13 +57,14 @@ fn wild_codes_and_offsets() {
 fn wild_values_under_a_sound_action() {
     let mut random = Random::for_test(503);
     let mut compared = opened(&mut random);
+    let codes: Vec<u8> = codes_with_a_form().collect();
     for _ in 0..submissions(15_000) {
         let action = *random.pick(&ACTIONS);
         let uti = values::uti(&mut random);
         let mut message = sound::message(&mut random, action, &uti);
         for _ in 0..random.between(1, 3) {
-            let code = random.between(1, LAST_CODE.into()) as u8;
-            if code != 2 && message.has(code) {
+            let code = *random.pick(&codes);
+            if message.has(code) {
                 let length = random.between(1, 30);
                 let value = random.text(length, b"0123456789.-:TZAYaz ");
                 message.set(code, value);
@@ -82,7 +83,7 @@ fn opened(random: &mut Random) -> Compared {
     let mut compared = Compared::new();
     compared.set_ledger(&random.bytes(ledger_size(3)));
     compared.set_tape(&random.bytes(TAPE));
-    assert_eq!(compared.open(&[250_000_000; 5]).verdict, 0);
+    assert_eq!(compared.open(&DAY_CAPS).verdict, 0);
     compared
 }
 

@@ -3,15 +3,17 @@
 
 use compare::compared::Compared;
 use compare::cycles::{next_message, Model};
-use compare::faults::LAST_SHORT;
 use compare::histories::{broken_premises, run, Call, History, Premise};
-use compare::layout::{ledger_size, LINE_SIZE, NEXT_IN_HEADER, ROW_SIZE};
+use compare::layout::{ledger_size, Caps, DAY_CAPS, LINE_SIZE, NEXT_IN_HEADER, PRICE_NUM};
+use compare::layout::{ROW_SIZE, SMALLEST_CAP};
+use compare::lists::{codes_of_full_messages, ACTION_TYPE, ALLOCATIONS, CLASSES, CONDITIONAL};
+use compare::lists::{FALSE, TRUE, TRUTHS, TRUTH_CODES};
 use compare::malformed;
-use compare::message::{Message, LAST_CODE};
+use compare::message::Message;
 use compare::random::Random;
-use compare::sound::{self, plain_new, plain_package};
-use compare::terms::{applies, is_true, CLASSES};
-use compare::values::{self, CAPITALS};
+use compare::sound::{self, plain_package, swap};
+use compare::terms::{applies, cap_of, is_true};
+use compare::values;
 use compare::{matrix, submissions};
 
 /// Swaps and calls of a random history.
@@ -60,7 +62,7 @@ fn lengths(random: &mut Random) -> (usize, usize) {
     )
 }
 
-fn history(random: &mut Random, length: usize, caps: [u64; 5], calls: Vec<Call>) -> History {
+fn history(random: &mut Random, length: usize, caps: Caps, calls: Vec<Call>) -> History {
     History {
         ledger: random.bytes(length),
         caps,
@@ -83,7 +85,7 @@ fn renamed(message: &Message, utis: &[Vec<u8>], others: &[Vec<u8>]) -> Message {
 }
 
 /// The message with everything else that is not public.
-fn disguised(random: &mut Random, message: &Message, caps: &[u64; 5]) -> Message {
+fn disguised(random: &mut Random, message: &Message, caps: &Caps) -> Message {
     let mut other = message.clone();
     if !message.has(6) {
         other.set(5, values::time(random));
@@ -91,19 +93,16 @@ fn disguised(random: &mut Random, message: &Message, caps: &[u64; 5]) -> Message
     }
     sound::set_execution(random, &mut other, message.value(6));
     other.set(9, values::date_from(random, message.value(8)));
-    other.set(14, random.pick(&["POST", "PREA", "UNAL"]));
+    other.set(14, random.pick(&ALLOCATIONS));
     other.set(23, values::lei(random));
     other.set(24, values::lei(random));
     if message.has(16) {
-        other.set(16, sound::package_identifier(random));
+        other.set(16, values::package_identifier(random));
     }
-    for code in [11, 12, 13, 15] {
+    for code in TRUTH_CODES {
         spell_otherwise(random, &mut other, code);
     }
-    let class = CLASSES
-        .iter()
-        .position(|name| name.as_bytes() == message.value(25));
-    let cap = caps[class.expect("an asset class")];
+    let cap = cap_of(message, caps);
     other.set(
         20,
         values::amount_masked_alike(random, message.value(20), cap),
@@ -114,25 +113,26 @@ fn disguised(random: &mut Random, message: &Message, caps: &[u64; 5]) -> Message
 
 fn spell_otherwise(random: &mut Random, message: &mut Message, code: u8) {
     if message.has(code) {
-        let [large, small] = match is_true(message.value(code)) {
-            true => ["True", "true"],
-            false => ["False", "false"],
+        let spellings = if is_true(message.value(code)) {
+            TRUE
+        } else {
+            FALSE
         };
-        message.set(code, if random.once_in(2) { large } else { small });
+        message.set(code, random.pick(&spellings));
     }
 }
 
 /// Elements that are left out may be there or not, with any sound value.
 fn change_left_out(random: &mut Random, message: &mut Message) {
-    for code in [11, 16, 17, 18, 19] {
+    for code in CONDITIONAL {
         if applies(message, code) {
             continue;
         }
         match (random.below(3), code) {
             (0, _) => _ = message.remove(code),
-            (1, 11) => _ = message.set(11, random.pick(&values::TRUTHS)),
-            (1, 17) => _ = message.set(17, values::price(random, 18, 13)),
-            (1, 19) => _ = message.set(19, random.text(3, CAPITALS)),
+            (1, 11) => _ = message.set(11, random.pick(&TRUTHS)),
+            (1, 17) => _ = message.set(17, values::price(random, PRICE_NUM)),
+            (1, 19) => _ = message.set(19, values::currency(random)),
             _ => {}
         }
     }
@@ -158,7 +158,7 @@ fn refused(random: &mut Random, verdict: u8) -> Call {
         6 => full.with(2, random.pick(&malformed::values(2))),
         7 => full.without(*random.pick(&[1, 4, 5, 6, 9, 12, 20, 25])),
         8 => {
-            let codes: Vec<u8> = (LAST_SHORT + 1..=LAST_CODE).collect();
+            let codes: Vec<u8> = codes_of_full_messages().collect();
             short.with(*random.pick(&codes), "value")
         }
         9 => {
@@ -224,14 +224,10 @@ fn plain(messages: &[Message]) -> History {
     };
     History {
         ledger: vec![0; ledger_size(5)],
-        caps: [250_000_000; 5],
+        caps: DAY_CAPS,
         tampering: (0, Vec::new()),
         calls: messages.iter().map(call).collect(),
     }
-}
-
-fn swap(n: u64) -> Message {
-    plain_new().with(1, format!("1000000000SWAP{n:010}"))
 }
 
 fn correct(n: u64) -> Message {
@@ -338,7 +334,7 @@ fn caps_broken() {
     let message = swap(3).with(20, "300000000");
     let first = ending_with(message.clone());
     let mut second = ending_with(message);
-    second.caps = [1_000_000_000; 5];
+    second.caps = [1_000_000_000; CLASSES.len()];
     breaks_only(Premise::Caps, &first, &second);
 }
 
@@ -363,7 +359,7 @@ fn an_opening_broken() {
     header.next = 70;
     compare::layout::write(&mut ledger, &header, &[]);
     refused.ledger = ledger;
-    refused.caps = [999; 5];
+    refused.caps = [SMALLEST_CAP - 1; CLASSES.len()];
     let (broken, differ) = compare_histories(&first, &refused);
     assert_eq!((broken[0], differ), (Premise::Opening, true));
 }
@@ -416,12 +412,12 @@ fn change_one(
 ) -> Option<(usize, Premise)> {
     let place = random.below(verdicts.len());
     let message = Message::decode(&history.calls[place].message)?;
-    let action = String::from_utf8_lossy(message.value(2)).into_owned();
+    let action = message.text(ACTION_TYPE);
     if verdicts[place] != 0 || !matrix::writes_line(&action) {
         return None;
     }
     let (code, value, premise) = if matrix::is_full(&action) && random.once_in(2) {
-        (21, random.text(3, CAPITALS), Premise::Terms)
+        (21, values::currency(random), Premise::Terms)
     } else {
         (4, values::time(random), Premise::EventTime)
     };

@@ -3,16 +3,17 @@
 
 use compare::compared::Compared;
 use compare::cycles::{next_message, Model};
-use compare::layout::{self, ledger_size, IDENTIFIER_LIMIT, LARGEST_CAPACITY, LINE_SIZE};
-use compare::layout::{ROW_SIZE, SHORTEST_LEDGER};
-use compare::matrix::{self, ACTIONS};
+use compare::layout::{self, ledger_size, DAY_ROWS, IDENTIFIER_LIMIT, LARGEST_CAPACITY};
+use compare::layout::{LINE_SIZE, ROW_SIZE, SHORTEST_LEDGER};
+use compare::lists::{statuses, ACTIONS, ACTION_TYPE, EVENT_TYPE};
+use compare::matrix;
 use compare::message::{described, Message};
 use compare::random::Random;
 use compare::tally::Tally;
 use compare::{submissions, values};
 use std::collections::BTreeSet;
 
-/// Lengths of ledgers, from one row to 400.
+/// Lengths of ledgers, from one row to those of a day.
 const LENGTHS: [usize; 9] = [
     SHORTEST_LEDGER,
     ledger_size(2) - 1,
@@ -22,7 +23,7 @@ const LENGTHS: [usize; 9] = [
     ledger_size(20),
     ledger_size(60) + 1,
     ledger_size(150),
-    ledger_size(400),
+    ledger_size(DAY_ROWS),
 ];
 
 /// What the life cycles have met.
@@ -110,12 +111,12 @@ impl Ledger {
 
 impl Met {
     fn note(&mut self, message: &Message, status: u8, verdict: u8) {
-        let text = |code: u8| String::from_utf8_lossy(message.value(code)).into_owned();
+        let (action, event) = (message.text(ACTION_TYPE), message.text(EVENT_TYPE));
         if verdict == 0 {
-            self.pairs.insert((text(2), text(3)));
+            self.pairs.insert((action.clone(), event));
         }
-        if verdict == 0 || verdict == 15 {
-            self.steps.insert((text(2), status, verdict == 0));
+        if verdict == 0 || verdict == sdr::NOT_ADMITTED {
+            self.steps.insert((action, status, verdict == 0));
         }
     }
 
@@ -123,7 +124,7 @@ impl Met {
     /// as the statuses say.
     fn check(&self) {
         let pairs = ACTIONS.iter().flat_map(|action| {
-            let events = matrix::events_of(action).iter();
+            let events = matrix::events_of(action).into_iter();
             events.map(|event| (action.to_string(), event.unwrap_or("").to_string()))
         });
         assert_eq!(self.pairs, pairs.collect());
@@ -135,7 +136,7 @@ impl Met {
                     matrix::status_after(action, status).is_some(),
                 )
             };
-            (0..=4).map(step)
+            statuses().map(step)
         });
         assert_eq!(self.steps, steps.collect());
     }
@@ -174,13 +175,13 @@ fn life_cycles_on_ledgers_of_several_sizes() {
 fn a_ledger_of_400_rows_fills_up() {
     let mut random = Random::for_test(20_240_302);
     let mut met = Met::default();
-    let mut ledger = Ledger::open(&mut random, ledger_size(400), 430);
+    let mut ledger = Ledger::open(&mut random, ledger_size(DAY_ROWS), DAY_ROWS + 30);
     for _ in 0..6_000 {
         ledger.step(&mut random, &mut met);
     }
     ledger.check_ledger();
-    println!("400 rows: {}", ledger.compared.tally);
-    assert_eq!(ledger.model.rows.len(), 400);
+    println!("{DAY_ROWS} rows: {}", ledger.compared.tally);
+    assert_eq!(ledger.model.rows.len(), DAY_ROWS);
     assert!(ledger.compared.tally.verdict(sdr::LEDGER_FULL) > 0);
 }
 

@@ -1,21 +1,18 @@
-//! The five misreadings that the paper names, one test each. What is expected
-//! is derived by hand.
+//! Five misreadings of the specification, one test each. What is expected is
+//! derived by hand.
 
 use compare::compared::Compared;
-use compare::layout::{ledger_size, row_range, u32_at, u64_at, IDENTIFIER_LIMIT, LINE_SIZE};
+use compare::layout::{row_range, u32_at, u64_at, IDENTIFIER_LIMIT, LARGEST_CAP, LINE_SIZE};
 use compare::layout::{ACTION_IN_LINE, NEWLINE_IN_LINE, NOTIONAL_IN_LINE, PLUS_IN_LINE};
 use compare::layout::{IDENTIFIER_IN_ROW, STATUS_IN_ROW, TERMS_IN_LINE, TERMS_IN_ROW};
 use compare::layout::{NEXT_IN_HEADER, ROWS_IN_HEADER};
-use compare::sound::{plain_new, plain_short};
+use compare::lists::CLASSES;
+use compare::sound::{plain_new, plain_short, swap};
 use sdr::{ERRORED, LIVE};
 
 /// A fresh ledger of three rows with all caps alike, and a tape buffer.
 fn opened(cap: u64) -> Compared {
-    let mut compared = Compared::new();
-    compared.set_ledger(&vec![0xee; ledger_size(3)]);
-    compared.set_tape(&[b'x'; LINE_SIZE]);
-    assert_eq!(compared.open(&[cap; 5]).verdict, 0);
-    compared
+    Compared::opened(3, &[cap; CLASSES.len()])
 }
 
 /// Status, last identifier and terms of the first row.
@@ -54,9 +51,7 @@ fn the_exact_amount_is_compared_with_the_cap() {
     assert_eq!(counts(&compared), (1, 2));
 
     // Equal to the cap shows no plus, though it is shown alike.
-    let message = message
-        .with(1, "1000000000SWAP0000000002")
-        .with(20, "250000000");
+    let message = swap(2).with(20, "250000000");
     assert_eq!(compared.submit(&message.encode()).identifier, 2);
     assert_eq!(compared.tape()[NOTIONAL_IN_LINE], *b"0000000250000000");
     assert_eq!(compared.tape()[PLUS_IN_LINE], *b" ");
@@ -64,7 +59,7 @@ fn the_exact_amount_is_compared_with_the_cap() {
 
 #[test]
 fn a_notional_of_25_digits_goes_in() {
-    let mut compared = opened(1_000_000_000_000_000);
+    let mut compared = opened(LARGEST_CAP);
     // In 64 bits this is 2^64 + 5 * 10^9, which would wrap to 5,000,000,000.
     let message = plain_new().with(20, "18446744078709551616");
     assert_eq!(compared.submit(&message.encode()).verdict, 0);
@@ -72,14 +67,12 @@ fn a_notional_of_25_digits_goes_in() {
     assert_eq!(compared.tape()[PLUS_IN_LINE], *b"+");
 
     // Counted in the fifth decimal place, 10^15 is beyond 64 bits.
-    let message = message.with(1, "1000000000SWAP0000000002");
-    let message = message.with(20, "00000999974999999999.99999");
+    let message = swap(2).with(20, "00000999974999999999.99999");
     assert_eq!(compared.submit(&message.encode()).verdict, 0);
     assert_eq!(compared.tape()[NOTIONAL_IN_LINE], *b"0999950000000000");
     assert_eq!(compared.tape()[PLUS_IN_LINE], *b" ");
 
-    let message = message.with(1, "1000000000SWAP0000000003");
-    let message = message.with(20, "9999999999999999999999999");
+    let message = swap(3).with(20, "9999999999999999999999999");
     assert_eq!(compared.submit(&message.encode()).verdict, 0);
     assert_eq!(compared.tape()[NOTIONAL_IN_LINE], *b"1000000000000000");
     assert_eq!(compared.tape()[PLUS_IN_LINE], *b"+");
@@ -136,11 +129,10 @@ fn spent_identifiers_are_found_before_the_row_is_written() {
     compared.set_ledger(&ledger);
     compared.set_tape(&[b'x'; LINE_SIZE]);
 
-    let other = plain_new().with(1, "1000000000SWAP0000000002");
     let changed = plain_new().with(2, "MODI").with(21, "EUR");
     let ended = plain_short("TERM", Some("ETRM"));
     let wrong = plain_short("EROR", None);
-    for message in [other, changed, ended, wrong] {
+    for message in [swap(2), changed, ended, wrong] {
         let answer = compared.submit(&message.encode());
         assert_eq!(
             (answer.verdict, answer.element, answer.identifier),

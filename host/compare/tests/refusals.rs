@@ -2,13 +2,13 @@
 
 use compare::compared::Compared;
 use compare::faults::{self, Case};
-use compare::layout::{ledger_size, LINE_SIZE, SHORTEST_LEDGER};
-use compare::matrix::ACTIONS;
+use compare::layout::{ledger_size, Caps, DAY_CAPS, LINE_SIZE, SHORTEST_LEDGER, SMALLEST_CAP};
+use compare::lists::{ACTIONS, CLASSES};
 use compare::random::Random;
-use compare::sound::plain_new;
+use compare::sound::{plain_new, swap};
 use sdr::Answer;
 
-const CAPS: [u64; 5] = [250_000_000; 5];
+const CAPS: Caps = DAY_CAPS;
 
 fn refused(verdict: u8, element: u8) -> Answer {
     Answer {
@@ -46,8 +46,8 @@ fn a_refused_opening_changes_nothing() {
     for (length, caps) in [
         (0, CAPS),
         (SHORTEST_LEDGER - 1, CAPS),
-        (SHORTEST_LEDGER, [999; 5]),
-        (ledger_size(9), [0; 5]),
+        (SHORTEST_LEDGER, [SMALLEST_CAP - 1; CLASSES.len()]),
+        (ledger_size(9), [0; CLASSES.len()]),
     ] {
         let ledger = random.bytes(length);
         compared.set_ledger(&ledger);
@@ -77,16 +77,12 @@ fn empty_buffers_are_refused() {
 
 #[test]
 fn refusals_leave_the_next_acceptance_alone() {
-    let mut compared = Compared::new();
-    compared.set_ledger(&vec![0; ledger_size(2)]);
-    compared.set_tape(&[b'x'; LINE_SIZE]);
-    assert_eq!(compared.open(&CAPS).verdict, 0);
+    let mut compared = Compared::opened(2, &CAPS);
     let sound = plain_new();
     for broken in [sound.without(2), sound.without(9), sound.with(3, "ETRM")] {
         assert_ne!(compared.submit(&broken.encode()).verdict, 0);
     }
     assert_eq!(compared.submit(&sound.encode()).identifier, 1);
     assert_eq!(compared.submit(&sound.encode()), refused(15, 0));
-    let other = sound.with(1, "1000000000SWAP0000000002");
-    assert_eq!(compared.submit(&other.encode()).identifier, 2);
+    assert_eq!(compared.submit(&swap(2).encode()).identifier, 2);
 }

@@ -3,7 +3,8 @@
 
 use compare::compared::Compared;
 use compare::layout::*;
-use compare::matrix::{is_pair, status_after, ACTIONS, EVENTS};
+use compare::lists::{ACTIONS, EVENTS, LAST_CODE};
+use compare::matrix::{is_pair, status_after};
 use compare::message::Message;
 use compare::order;
 use compare::sound::{plain_new, plain_package, plain_short};
