@@ -11,7 +11,8 @@ A name stands in back quotes and is one of
   crate/must-fail/label.edit       a must-fail edit of the gate
   vectors#word                     lines of crates/vectors/stdin that open with the word
   host/dir/file.rs#test            a test of the host project
-Anything else in back quotes is an error, and so is a must-fail edit, a public function of a library or a function of a program that the document does not name.
+Anything else in back quotes is an error, and so is a public function of a library or a function of a program that the document does not name.
+edits.py holds the rows about must-fail edits to the edits.
 
 A quotation is a block that opens with three back quotes and the name of a file, as in crate/specs/File.antt. Its lines stand in that file, one after the
 other. A statement is a definition of specs with a capital and a hyphen in its name, or one that is a whole clause of a contract. These are quoted whole,
@@ -372,8 +373,7 @@ def main(path):
     document = without_quotations(whole)
     names = re.findall(r"`([^`\n]+)`", document)
     faults = ["no such name: " + name for name in sorted(set(names)) if not exists(name)]
-    edits = ["%s/must-fail/%s" % (p.parts[1], p.name) for p in sorted(CRATES.glob("*/must-fail/*.edit"))]
-    faults += ["not in the document: " + name for name in edits + list(public_functions()) + list(program_functions()) if name not in names]
+    faults += ["not in the document: " + name for name in [*public_functions(), *program_functions()] if name not in names]
     faults += clause_faults(whole, specification)
     faults += quotation_faults(whole)
     faults += citation_faults()
