@@ -20,7 +20,7 @@ fn is_refused(text: &str, line: usize, sentence: &str) {
 }
 
 #[test]
-fn the_example_of_document_01() {
+fn the_example_of_the_specification() {
     gives(
         "count 0\ndue 6 2 0\n",
         "message verdict element record\n1 6 2 0\nend 1 0\n",
