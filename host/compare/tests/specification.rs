@@ -219,6 +219,30 @@ fn judged(message: &Message) -> (u8, u8) {
     (answer.verdict, answer.element)
 }
 
+/// The bytes of a cell: text in back quotes, or hexadecimal.
+fn bytes(cell: &str) -> Vec<u8> {
+    match cell.strip_prefix('`') {
+        Some(text) => text.trim_end_matches('`').as_bytes().to_vec(),
+        None => {
+            let byte = |pair| u8::from_str_radix(pair, 16).expect("hexadecimal");
+            cell.split(' ').map(byte).collect()
+        }
+    }
+}
+
+/// The layout is right, and so are the values; the swap is unknown.
+#[test]
+fn the_message_of_the_example() {
+    let mut message = Vec::new();
+    for row in table("This TERM has") {
+        assert_eq!(message.len() as u64, number(&row[0]), "{row:?}");
+        message.extend(bytes(&row[1]));
+    }
+    assert_eq!(message.len(), 91);
+    let answer = opened().submit(&message);
+    assert_eq!((answer.verdict, answer.element), (15, 0));
+}
+
 /// The column needed: what is answered where the element is missing.
 #[test]
 fn the_elements() {
