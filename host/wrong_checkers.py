@@ -79,7 +79,7 @@ def copied(top):
     (top / "target").mkdir()
     for name in ("staticlib", "bin"):
         (top / "target" / name).symlink_to(HOST.parent / "target" / name)
-    for name in ("include", VECTORS, "crates/dayrun", "days"):
+    for name in ("include", VECTORS, "crates/dayrun", "days", "docs"):
         shutil.copytree(HOST.parent / name, top / name)
     return shutil.copytree(HOST, top / "host", ignore=shutil.ignore_patterns("target"))
 
