@@ -23,8 +23,8 @@
  *     It may be stored and brought back elsewhere. A length that means another capacity is refused (SDR_LEDGER_WRONG);
  *     other damage may go unnoticed.
  *
- * docs/SPECIFICATION.md says in full what is judged, stored and shown; this header names its numbers. Sections below are
- * sections of that document.
+ * docs/SPECIFICATION.md says in full what is judged, stored and shown. This header has names for its verdicts, elements,
+ * statuses, sizes and limits. Sections below are sections of that document.
  *
  * What is yours to do: signing, transport, the dissemination delay and the clock, storing ledger and tape, and copying each
  * line out of the tape buffer before the next submission, which writes to the same place.

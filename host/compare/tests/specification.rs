@@ -15,17 +15,30 @@ use std::path::Path;
 /// The cells of a table, row by row, without its heading.
 type Table = Vec<Vec<String>>;
 
-/// The first table behind the line that opens with these words.
-fn table(opening: &str) -> Table {
+/// The document from the line on that opens with these words.
+fn from(opening: &str) -> Vec<String> {
     let package = Path::new(env!("CARGO_MANIFEST_DIR"));
     let text = fs::read_to_string(package.join("../../docs/SPECIFICATION.md"));
     let text = text.expect("docs/SPECIFICATION.md can be read");
-    let rows: Table = text
-        .lines()
-        .skip_while(|line| !line.starts_with(opening))
+    let lines = text.lines().skip_while(|line| !line.starts_with(opening));
+    lines.map(str::to_string).collect()
+}
+
+/// The number of bytes that the line with this opening says.
+fn size(opening: &str) -> usize {
+    let line = &from(opening)[0];
+    let before = line.split_once(" bytes").expect("a number of bytes").0;
+    let (_, digits) = before.rsplit_once(' ').expect("a number");
+    number(digits) as usize
+}
+
+/// The first table behind the line that opens with these words.
+fn table(opening: &str) -> Table {
+    let rows: Table = from(opening)
+        .iter()
         .skip_while(|line| !line.starts_with('|'))
         .take_while(|line| line.starts_with('|'))
-        .map(cells)
+        .map(|line| cells(line))
         .collect();
     assert!(rows.len() > 2, "{opening} has a table");
     rows[2..].to_vec()
@@ -63,6 +76,7 @@ fn the_line() {
         NEWLINE_IN_LINE,
     ];
     assert_eq!(fields("**7.1**"), line);
+    assert_eq!(size("**7.1**"), LINE_SIZE);
 }
 
 #[test]
@@ -99,6 +113,7 @@ fn the_header() {
         CAPACITY_IN_HEADER,
     ];
     assert_eq!(fields("**8.1**"), header);
+    assert_eq!(size("**8.1**"), HEADER_SIZE);
 }
 
 #[test]
@@ -112,6 +127,13 @@ fn a_row() {
         TAIL_IN_ROW,
     ];
     assert_eq!(fields("**8.3**"), row);
+    assert_eq!(size("**8.3**"), ROW_SIZE);
+}
+
+#[test]
+fn lengths() {
+    assert_eq!(size("**2.6**"), LONGEST_MESSAGE);
+    assert_eq!(size("**8.2**"), SHORTEST_LEDGER);
 }
 
 #[test]
