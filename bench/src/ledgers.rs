@@ -3,14 +3,14 @@
 use crate::messages::sound_new;
 use crate::utis::Shape;
 use compare::layout::{row_range, u32_at, EXECUTION_IN_TERMS, TERMS_IN_ROW};
-use compare::layout::{CAPACITY_IN_HEADER, NEXT_IN_HEADER, ROWS_IN_HEADER};
+use compare::layout::{Caps, CAPACITY_IN_HEADER, DAY_CAPS, NEXT_IN_HEADER, ROWS_IN_HEADER};
 use compare::layout::{IDENTIFIER_IN_ROW, LENGTH_IN_ROW, STATUS_IN_ROW, UTI_IN_ROW};
 use compare::random::Random;
 use sdr::{ledger_size, ACCEPTED, CLOSED, ERRORED, LIVE, PORTED};
 use sdr::{HEADER_SIZE, LARGEST_CAPACITY, LINE_SIZE};
 
-/// All five caps.
-pub const CAPS: [u64; 5] = [250_000_000; 5];
+/// The caps of every ledger that is measured.
+pub const CAPS: Caps = DAY_CAPS;
 /// So many different terms are dealt out over the rows.
 const PATTERNS: usize = 64;
 

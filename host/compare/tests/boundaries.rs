@@ -301,7 +301,7 @@ fn terms_as_shown() {
             "-1.25               3",
             "",
         ),
-        // What is sent although its "if" is not met is left out.
+        // An element whose condition does not hold is left out.
         (new.with(11, "True"), "Y FFF", "", ""),
         (new.with(10, "I").with(11, "True"), "I FFF", "", ""),
         (package("1").with(15, "False"), "Y FFF", "", ""),

@@ -5,7 +5,10 @@ use compare::cycles::{next_message, Model};
 use compare::garbage::flip;
 use compare::layout::{self, ledger_size, Caps, Header, Row, EXECUTION_IN_TERMS, HEADER_SIZE};
 use compare::layout::{IDENTIFIER_LIMIT, LARGEST_CAPACITY, LINE_SIZE, PREVIOUS_IN_LINE};
-use compare::layout::{ROW_SIZE, SHORTEST_LEDGER, TAIL_SIZE, TERMS_IN_LINE, UTI_SIZE};
+use compare::layout::{
+    LARGEST_CAP, SHORTEST_UTI, SMALLEST_CAP, TAIL_SIZE, TERMS_IN_LINE, UTI_SIZE,
+};
+use compare::layout::{ROW_SIZE, SHORTEST_LEDGER};
 use compare::lists::CLASSES;
 use compare::malformed;
 use compare::message::Message;
@@ -123,8 +126,8 @@ fn headers_that_look_odd_and_are_sound() {
     full.next = 10;
     assert_eq!(verdicts(&ledger_of(&full, &rows(), ledger_size(3))), (0, 0));
     // Each class has the lowest and the highest cap.
-    for class in 0..5 {
-        for cap in [1_000, 1_000_000_000_000_000] {
+    for class in 0..CLASSES.len() {
+        for cap in [SMALLEST_CAP, LARGEST_CAP] {
             let mut capped = header(length);
             capped.caps[class] = cap;
             assert_eq!(verdicts(&ledger_of(&capped, &rows(), length)), (0, 0));
@@ -215,7 +218,7 @@ fn rows_with_another_length_are_not_the_swap_s() {
 fn every_byte_of_a_uti_is_compared() {
     let mut header = header(SHORTEST_LEDGER);
     header.rows = 1;
-    for size in [21, UTI_SIZE] {
+    for size in [SHORTEST_UTI, UTI_SIZE] {
         let uti = vec![b'A'; size];
         let row = Row::new(&uti, 7, terms_of(&plain_new(), &CAPS));
         let status = |row: &Row| {

@@ -3,7 +3,7 @@
 
 use compare::compared::Compared;
 use compare::layout::*;
-use compare::lists::{ACTIONS, EVENTS, LAST_CODE};
+use compare::lists::{ACTIONS, CLASSES, EVENTS, LAST_CODE};
 use compare::matrix::{is_pair, status_after};
 use compare::message::Message;
 use compare::order;
@@ -188,11 +188,7 @@ fn the_steps() {
 
 /// A ledger of one row, opened with the largest caps, and a tape buffer.
 fn opened() -> Compared {
-    let mut compared = Compared::new();
-    compared.set_ledger(&[0; ledger_size(1)]);
-    compared.set_tape(&[0; LINE_SIZE]);
-    assert_eq!(compared.open(&[1_000_000_000_000_000; 5]).verdict, 0);
-    compared
+    Compared::opened(1, &[LARGEST_CAP; CLASSES.len()])
 }
 
 /// The notional that a line shows for an amount.

@@ -4,7 +4,7 @@
 
 use compare::compared::Compared;
 use compare::faults::{Case, Fault};
-use compare::layout::{self, ledger_size, Header, LINE_SIZE};
+use compare::layout::{self, ledger_size, Caps, Header, DAY_CAPS, LINE_SIZE};
 use compare::layout::{NOTIONAL_IN_LINE, NOTIONAL_SIZE, PLUS_IN_LINE, PRICE_IN_LINE, PRICE_SIZE};
 use compare::lists::{ACTIONS, EVENTS};
 use compare::random::Random;
@@ -15,7 +15,7 @@ use std::collections::BTreeSet;
 use std::fs;
 use std::path::Path;
 
-const CAPS: [u64; 5] = [250_000_000; 5];
+const CAPS: Caps = DAY_CAPS;
 
 /// A line of the table: the rest after the word, and the stored answer.
 struct Line {
