@@ -3,7 +3,7 @@ use Prim.Native.Nat.{ℕ, _-_}
 use mathlib.Core.List.{List, [], _∷_}
 use lib.ListN.{length, getD}
 use Rattle.elements.specs.declared.table.Form.{Form}
-use Rattle.elements.specs.declared.table.Form.the-variants.{Unknown, Uti, Action, Event, Time, Date, Cleared, Truth, Allocation, PackageIdentifier, Price, Notation, Currency, Notional, Location, Lei, AssetClass}
+use Rattle.elements.specs.declared.table.Form.the-variants.{Unknown, Uti, Action, Event, Time, Date, Cleared, Truth, Allocation, PackageIdentifier, Price, PriceNotation, Currency, Notional, Location, Lei, AssetClass}
 use Rattle.elements.specs.declared.table.Kinds.{Kinds}
 use Rattle.elements.specs.declared.table.Kinds.the-variants.{None, All, Full}
 use Rattle.elements.specs.declared.table.Condition.{Condition}
@@ -40,7 +40,7 @@ elements =
     ∷ row Truth Full Full Never Always Shown  -- 15 package indicator
     ∷ row PackageIdentifier Full None Package Never Hidden  -- 16 package identifier
     ∷ row Price Full None Package Package Shown  -- 17 package price
-    ∷ row Notation Full None Package Package Shown  -- 18 price notation
+    ∷ row PriceNotation Full None Package Package Shown  -- 18 price notation
     ∷ row Currency Full None InCurrency InCurrency Shown  -- 19 price currency
     ∷ row Notional Full Full Never Always Masked  -- 20 notional amount
     ∷ row Currency Full Full Never Always Shown  -- 21 notional currency

@@ -32,7 +32,7 @@ fn fits_form(form: Form, v: &[u8]) -> bool
         Form::Allocation => values::is_allocation(v),
         Form::PackageIdentifier => values::is_package_identifier(v),
         Form::Price => numbers::is_price(v),
-        Form::Notation => values::is_notation(v),
+        Form::PriceNotation => values::is_price_notation(v),
         Form::Currency => values::is_currency(v),
         Form::Notional => numbers::is_notional(v),
         Form::Location => values::is_location(v),

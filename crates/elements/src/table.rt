@@ -18,7 +18,7 @@ pub enum Form {
     Allocation,
     PackageIdentifier,
     Price,
-    Notation,
+    PriceNotation,
     Currency,
     Notional,
     Location,
@@ -112,7 +112,7 @@ pub fn element_of(code: u8) -> Element
         15 => row(Truth, Full, Full, Never, Always, Shown), // package indicator
         16 => row(PackageIdentifier, Full, None, Package, Never, Hidden), // package identifier
         17 => row(Price, Full, None, Package, Package, Shown), // package price
-        18 => row(Notation, Full, None, Package, Package, Shown), // price notation
+        18 => row(PriceNotation, Full, None, Package, Package, Shown), // price notation
         19 => row(Currency, Full, None, InCurrency, InCurrency, Shown), // price currency
         20 => row(Notional, Full, Full, Never, Always, Masked), // notional amount
         21 => row(Currency, Full, Full, Never, Always, Shown), // notional currency

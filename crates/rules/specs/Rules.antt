@@ -58,18 +58,24 @@ numberOf Taken = elementNotTaken
 numberOf Formed = formBroken
 numberOf Due = conditionalMissing
 
--- a price with notation 3 has at most 11 digits, 10 after the point (12)
+-- an unsigned number has more digits than these, in all or after the point
+unfoldable pub longer : ℕ → ℕ → Bytes → Bool
+longer digits decimals v = either (ltb digits (length (wholeOf v) + length (decimalsOf v))) (ltb decimals (length (decimalsOf v)))
+
+-- the most digits under notation 3, in all and after the point (12)
 abbrev pub notationThreeDigits : ℕ
 notationThreeDigits = 11
 
 abbrev pub notationThreeDecimals : ℕ
 notationThreeDecimals = 10
 
-unfoldable pub longPrice : Bytes → Bool
-longPrice v = either (ltb notationThreeDigits (length (wholeOf v) + length (decimalsOf v))) (ltb notationThreeDecimals (length (decimalsOf v)))
+-- a price has more digits than its notation allows, as it was sent
+unfoldable pub longQuote : ℕ → ℕ → Bytes → Bool
+longQuote price notation m = both (valueIs notation (text "3") m) (longer notationThreeDigits notationThreeDecimals (unsignedOf (value price m)))
 
+-- the price of a package is too long (12)
 unfoldable pub hasLongPrice : Bytes → Bool
-hasLongPrice m = both (isPackage m) (both (valueIs priceNotation (text "3") m) (longPrice (unsignedOf (value packagePrice m))))
+hasLongPrice m = both (isPackage m) (longQuote packagePrice priceNotation m)
 
 -- dates and times of a full message are out of order (13)
 abbrev pub elementBefore : Bytes → ℕ → ℕ → Bool

@@ -7,7 +7,7 @@ ghost use Rattle.message.specs.Values.{entries, isThere};
 ghost use Rattle.message.specs.Reading.{Laid, Reached};
 ghost use Rattle.elements.specs.Conditions.{factsOf};
 ghost use Rattle.rules.specs.Findings.{lowest};
-ghost use Rattle.rules.specs.Rules.{answerOf, atFault, FactsFor, longPrice, hasLongPrice, elementBefore, outOfOrder};
+ghost use Rattle.rules.specs.Rules.{answerOf, atFault, FactsFor, longer, longQuote, hasLongPrice, elementBefore, outOfOrder};
 use actions::Action;
 use actions::Checked;
 use elements::EFFECTIVE_DATE;
@@ -35,7 +35,7 @@ pub enum Check {
     Due,
 }
 
-// The most digits of a price with notation 3, in all and after the point.
+// The most digits under notation 3, in all and after the point.
 const NOTATION_THREE_DIGITS: usize = 11;
 
 const NOTATION_THREE_DECIMALS: usize = 10;
@@ -119,19 +119,33 @@ pub fn lowest_not_taken(m: &[u8], action: Action) -> Checked
     lowest_fault(m, NO_FACTS, action, Check::Taken)
 }
 
-// Whether an unsigned number has more digits than a price with notation 3 may have.
-fn is_long_price(v: &[u8]) -> bool
-    ensures { λ r. ⌜ r ≡ longPrice (now (v .entry)) ⌝ }
+// Whether an unsigned number has more digits than these, in all or after the point.
+fn is_longer(v: &[u8], most_digits: usize, most_decimals: usize) -> bool
+    ensures { λ r. ⌜ r ≡ longer «most_digits» «most_decimals» (now (v .entry)) ⌝ }
 {
     let whole = numbers::whole_of(v);
     let decimals = numbers::decimals_of(v);
-    if NOTATION_THREE_DIGITS < whole.len() + decimals.len() {
+    if most_digits < whole.len() + decimals.len() {
         return true;
     }
-    NOTATION_THREE_DECIMALS < decimals.len()
+    most_decimals < decimals.len()
 }
 
-// Whether the price of a package with notation 3 is too long.
+// Whether a price has more digits than its notation allows.
+fn is_long_quote(m: &[u8], price: u8, notation: u8) -> bool
+    ensures { λ r. ⌜ r ≡ longQuote price notation (now (m .entry)) ⌝ }
+{
+    if !elements::value_is(m, notation, b"3") {
+        return false;
+    }
+    is_longer(
+        numbers::unsigned_of(element(m, price)),
+        NOTATION_THREE_DIGITS,
+        NOTATION_THREE_DECIMALS,
+    )
+}
+
+// Whether the price of a package is too long.
 pub fn has_long_price(m: &[u8], facts: Facts) -> bool
     requires { ⌜ facts ≡ factsOf (now m) ⌝ }
     ensures { λ r. ⌜ r ≡ hasLongPrice (now (m .entry)) ⌝ }
@@ -139,10 +153,7 @@ pub fn has_long_price(m: &[u8], facts: Facts) -> bool
     if !facts.packaged {
         return false;
     }
-    if !elements::value_is(m, PRICE_NOTATION, b"3") {
-        return false;
-    }
-    is_long_price(numbers::unsigned_of(element(m, PACKAGE_PRICE)))
+    is_long_quote(m, PACKAGE_PRICE, PRICE_NOTATION)
 }
 
 // Whether the value of one element is before that of another.

@@ -29,11 +29,11 @@ unfoldable pub isAllocation : Bytes → Bool
 isAllocation v = either (sameBytes v (text "POST")) (either (sameBytes v (text "PREA")) (sameBytes v (text "UNAL")))
 
 -- code 18: 1 or 3
-abbrev pub notationCodes : List String
-notationCodes = "1" ∷ "3" ∷ []
+abbrev pub priceNotations : List String
+priceNotations = "1" ∷ "3" ∷ []
 
-unfoldable pub isNotation : Bytes → Bool
-isNotation v = oneOf notationCodes v
+unfoldable pub isPriceNotation : Bytes → Bool
+isPriceNotation v = oneOf priceNotations v
 
 -- code 25: CR, IR, FX, EQ or CO
 abbrev pub assetClasses : List String

@@ -1,7 +1,7 @@
 // Values that are one of a few codes.
 ghost use mathlib.Core.Path.{_≡_};
 ghost use Rattle.octets.specs.Same.{sameBytes};
-ghost use Rattle.values.specs.Code.{isTrue, isFalse, isTruth, isCleared, isAllocation, isNotation, isAssetClass};
+ghost use Rattle.values.specs.Code.{isTrue, isFalse, isTruth, isCleared, isAllocation, isPriceNotation, isAssetClass};
 use octets::one_of;
 use octets::same;
 
@@ -57,8 +57,8 @@ pub fn is_allocation(v: &[u8]) -> bool
     is_code(v, b"UNAL")
 }
 
-pub fn is_notation(v: &[u8]) -> bool
-    ensures { λ r. ⌜ r ≡ isNotation (now (v .entry)) ⌝ }
+pub fn is_price_notation(v: &[u8]) -> bool
+    ensures { λ r. ⌜ r ≡ isPriceNotation (now (v .entry)) ⌝ }
 {
     one_of(v, b"13", 1, 2)
 }

@@ -26,7 +26,7 @@ fn has_form(place: usize, v: &[u8]) -> bool {
         5 => values::is_truth(v),
         6 => values::is_cleared(v),
         7 => values::is_allocation(v),
-        8 => values::is_notation(v),
+        8 => values::is_price_notation(v),
         9 => values::is_asset_class(v),
         10 => values::is_lei(v),
         11 => numbers::is_price(v),

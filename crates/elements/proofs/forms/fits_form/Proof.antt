@@ -37,7 +37,7 @@ returns-11 : tie.Need-returns-11
 returns-11 c = rw (c .before .enum-told11 .given .1) (c .is-price .ensures)
 
 returns-12 : tie.Need-returns-12
-returns-12 c = rw (c .before .enum-told12 .given .1) (c .is-notation .ensures)
+returns-12 c = rw (c .before .enum-told12 .given .1) (c .is-price-notation .ensures)
 
 returns-13 : tie.Need-returns-13
 returns-13 c = rw (c .before .enum-told13 .given .1) (c .is-currency .ensures)

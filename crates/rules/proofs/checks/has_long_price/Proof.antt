@@ -1,25 +1,18 @@
 -- `rules::checks::has_long_price` meets its contract. Assumes nothing.
 use mathlib.Core.Path.{_≡_, sym, ap, _∙_}
 use borrow.Author.Tests.{not-true, not-false}
-use Rattle.octets.specs.Text.{text}
 use denote.Ref.{now}
-use Rattle.elements.specs.Codes.{priceNotation}
 use Rattle.elements.specs.declared.conditions.Facts.{Facts}
-use Rattle.elements.specs.Conditions.{isPackage, valueIs, factsOf}
-use Rattle.numbers.specs.Numbers.{unsignedOf}
-use Rattle.rules.specs.Rules.{longPrice, hasLongPrice}
+use Rattle.elements.specs.Conditions.{isPackage, factsOf}
+use Rattle.rules.specs.Rules.{hasLongPrice}
 use borrow.Author.Needs.{needs}
 use Rattle.rules.proofs.checks.has_long_price.Statement.{statement}
 use Rattle.rules.proofs.checks.has_long_price.Tie as tie
 
--- what the facts tell, and the test of the notation
+-- what the facts tell
 packaged : (c : tie.Start) → c .args .facts .packaged ≡ isPackage (now (c .args .m))
 unfolding factsOf
 packaged c = ap (λ (f : Facts). f .packaged) (c .pre)
-
-ensured : (c : tie.After-value-is) → c .value-is .result ≡ valueIs priceNotation (text "3") (now (c .before .before .before .before .before .args .m))
-unfolding text
-ensured c = c .value-is .ensures
 
 returns : tie.Need-returns
 unfolding hasLongPrice
@@ -27,26 +20,7 @@ returns c = rw (sym (packaged (c .before .before .before)) ∙ not-true _ (c .if
 
 returns-2 : tie.Need-returns-2
 unfolding hasLongPrice
-returns-2 c = rw (sym (packaged (c .before .before .before .before .before .before)) ∙ not-false _ (c .before .before .before .if1 .left), sym (ensured (c .before)) ∙ not-true _ (c .if2 .taken))
-
-returns-3 : tie.Need-returns-3
-unfolding hasLongPrice
-returns-3 c =
-    rw (
-      sym (packaged (c .before .before .before .before .before .before .before .before .before)) ∙ not-false _ (c .before .before .before .before .before .before .if1 .left),
-      sym (ensured (c .before .before .before .before)) ∙ not-false _ (c .before .before .before .if2 .left),
-    )
-    (c .is-long-price .ensures ∙ ap longPrice (c .before .unsigned-of .ensures ∙ ap unsignedOf (c .before .before .element .ensures .0)))
+returns-2 c = rw (sym (packaged (c .before .before .before .before)) ∙ not-false _ (c .before .if1 .left)) (c .is-long-quote .ensures)
 
 pub has-long-price-spec : {M : Type 1} → statement M
-has-long-price-spec =
-    tie.close
-    (tie.spec
-    returns
-    (λ c. search needs)
-    (λ c κs. search needs)
-    returns-2
-    (λ c κs. search needs)
-    (λ c κs. search needs)
-    (λ c κs. search needs)
-    returns-3)
+has-long-price-spec = tie.close (tie.spec returns (λ c κs. search needs) returns-2)
