@@ -1,8 +1,8 @@
 """promises.py PROMISES.md: the document has an entry for each clause, every name that it gives exists, and it quotes what is promised, as the files have it.
 
 An entry opens with the number of a clause of SPECIFICATION and a title, as in '- 2.3 title' or '- Verdict 7 title'. Every clause has one entry, under the
-section of the same title and in the same order. The quotations of SPECIFICATION are lines of the named files, in a row. No document has a longer line
-than LONGEST_LINE bytes.
+section of the same title and in the same order. The quotations of SPECIFICATION are lines of the named files, in a row, without the spaces at their ends.
+No document has a longer line than LONGEST_LINE bytes.
 
 A name stands in back quotes and is one of
   crate::module::function          a function of crates/crate/src, or a method there
@@ -289,10 +289,14 @@ def quotations(document):
     return [(file, quoted.rstrip("\n")) for file, quoted in re.findall(r"^```(\S+)\n(.*?)^```$", document, re.M | re.S)]
 
 
+def without_ends(source):
+    return re.sub(r" +$", "", source, flags=re.M)
+
+
 def misquotations(document, root):
-    """The quotations that are not the text of their files under root, each with the first line that is not."""
+    """The quotations that are not the text of their files under root, each with the first line that is not. Spaces at the end of a line do not count."""
     for file, block in quotations(document):
-        lines, source = block.splitlines(), text(root / file) or ""
+        lines, source = without_ends(block).splitlines(), without_ends(text(root / file) or "")
         for i in range(len(lines)):
             if not holds(source, "\n".join(lines[: i + 1])):
                 yield "not the text of %s: '%s'" % (file, lines[i])
