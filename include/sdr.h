@@ -44,7 +44,7 @@ extern "C" {
 /* ---- Sizes, in bytes, and limits (sections 2, 6, 7 and 8) ---- */
 
 #define SDR_HEADER_SIZE 64 /* the ledger's header */
-#define SDR_ROW_SIZE 160   /* one swap in the ledger */
+#define SDR_ROW_SIZE 184   /* one swap in the ledger */
 
 /* The shortest ledger has room for one swap. */
 #define SDR_SHORTEST_LEDGER (SDR_HEADER_SIZE + SDR_ROW_SIZE)
@@ -56,7 +56,7 @@ extern "C" {
 #define SDR_LEDGER_SIZE(rows) ((size_t)SDR_HEADER_SIZE + (size_t)SDR_ROW_SIZE * (size_t)(rows))
 
 /* A tape line, its newline included: the least that a tape buffer must have. There is no terminating zero. */
-#define SDR_LINE_SIZE 146
+#define SDR_LINE_SIZE 170
 
 /* A longer message is refused (SDR_LAYOUT_WRONG). */
 #define SDR_LONGEST_MESSAGE 2048
@@ -85,7 +85,7 @@ extern "C" {
  * A date is YYYY-MM-DD, from the year 1900 on. A time is a date, T, hh:mm:ss and Z. A truth is True, False, true or false.
  */
 
-#define SDR_LAST_CODE 25 /* the codes are 1 up to this */
+#define SDR_LAST_CODE 28 /* the codes are 1 up to this */
 
 enum sdr_element_code {
     SDR_UTI = 1,                      /* all; 21 to 52 capitals or digits; names the swap */
@@ -104,15 +104,19 @@ enum sdr_element_code {
     SDR_ALLOCATION = 14,              /* full; POST, PREA or UNAL */
     SDR_PACKAGE_INDICATOR = 15,       /* full; truth */
     SDR_PACKAGE_IDENTIFIER = 16,      /* if 15 is true; 1 to 100 letters or digits */
-    SDR_PACKAGE_PRICE = 17,           /* if 15 is true; number, minus allowed, 18 digits, 13 after the point */
-    SDR_PRICE_NOTATION = 18,          /* if 15 is true; 1 or 3 */
-    SDR_PRICE_CURRENCY = 19,          /* if 15 is true and 18 is 1; 3 capitals */
+    SDR_PACKAGE_PRICE = 17,           /* if 15 is true and 26 is missing; number, minus allowed,
+                                         18 digits, 13 after the point */
+    SDR_PRICE_NOTATION = 18,          /* if 15 is true and 17 is there; 1 or 3 */
+    SDR_PRICE_CURRENCY = 19,          /* if 15 is true, 17 is there and 18 is 1; 3 capitals */
     SDR_NOTIONAL_AMOUNT = 20,         /* full; number, no minus, 25 digits, 5 after the point */
     SDR_NOTIONAL_CURRENCY = 21,       /* full; 3 capitals */
     SDR_SETTLEMENT_LOCATION = 22,     /* optional; 2 capitals */
     SDR_COUNTERPARTY_1 = 23,          /* full; LEI with right check digits */
     SDR_COUNTERPARTY_2 = 24,          /* full; LEI with right check digits */
-    SDR_ASSET_CLASS = 25              /* full; CR, IR, FX, EQ or CO; says which cap applies */
+    SDR_ASSET_CLASS = 25,             /* full; CR, IR, FX, EQ or CO; says which cap applies */
+    SDR_PACKAGE_SPREAD = 26,          /* optional; of 17's form; a package has 17 or 26 */
+    SDR_SPREAD_NOTATION = 27,         /* if 15 is true and 26 is there; 1, 3 or 4 */
+    SDR_SPREAD_CURRENCY = 28          /* if 15 is true, 26 is there and 27 is 1; 3 capitals */
 };
 
 /* ---- Verdicts (section 9) ----
@@ -120,7 +124,7 @@ enum sdr_element_code {
  * An operation judges its rules one after the other and answers the first one that is broken. The order:
  *
  *   sdr_open     1, 2
- *   sdr_submit   3, 4, 5, 6, 7, 8, 9, 10, 11, 12, 13, 14, 15, 16, 17, 18
+ *   sdr_submit   3, 4, 5, 6, 7, 8, 9, 10, 11, 19, 12, 13, 14, 15, 16, 17, 18
  *   sdr_status   3, 9, 14
  *
  * The element is 0 unless a comment below says otherwise.
@@ -149,7 +153,8 @@ enum sdr_verdict_code {
                                      sdr_status: the UTI is not of its form. Element: 1 */
     SDR_NOT_A_PAIR = 10,          /* this event, or no event, does not go with this action */
     SDR_CONDITIONAL_MISSING = 11, /* an element whose condition is met is missing. Element: the lowest such */
-    SDR_PRICE_TOO_LONG = 12,      /* a package's price with notation 3 has over 11 digits, or over 10 after the point */
+    SDR_PRICE_TOO_LONG = 12,      /* a package's price or spread has more digits than its notation allows. Notation 3: 11,
+                                     10 after the point. Notation 4: 5, none after the point */
     SDR_DATES_DISORDERED = 13,    /* in a full message: expiration before effective date, settlement before expiration,
                                      or reporting before execution */
     SDR_ROW_WRONG = 14,           /* the swap's row in the ledger is damaged: its status or its identifier is none that can
@@ -157,7 +162,8 @@ enum sdr_verdict_code {
     SDR_NOT_ADMITTED = 15,        /* the swap's status does not allow the action; see the statuses */
     SDR_OTHER_TIME = 16,          /* MODI or REVI gives another execution time than the swap has */
     SDR_LEDGER_FULL = 17,         /* NEWT, and every row is in use */
-    SDR_IDENTIFIERS_SPENT = 18    /* a line would be due, and no identifier is left */
+    SDR_IDENTIFIERS_SPENT = 18,   /* a line would be due, and no identifier is left */
+    SDR_PRICE_AND_SPREAD = 19     /* a package has both price and spread */
 };
 
 /* ---- Statuses (section 5) ----
@@ -267,13 +273,14 @@ static inline const char *sdr_verdict_text(unsigned verdict)
     case SDR_FORM_BROKEN: return "value breaks its form";
     case SDR_NOT_A_PAIR: return "event does not go with action";
     case SDR_CONDITIONAL_MISSING: return "conditional element missing";
-    case SDR_PRICE_TOO_LONG: return "price too long for its notation";
+    case SDR_PRICE_TOO_LONG: return "price or spread too long for its notation";
     case SDR_DATES_DISORDERED: return "dates or times out of order";
     case SDR_ROW_WRONG: return "row of the swap damaged";
     case SDR_NOT_ADMITTED: return "action not admitted by the swap's status";
     case SDR_OTHER_TIME: return "execution time differs from the swap's";
     case SDR_LEDGER_FULL: return "ledger full";
     case SDR_IDENTIFIERS_SPENT: return "identifiers spent";
+    case SDR_PRICE_AND_SPREAD: return "package with both price and spread";
     default: return "no such verdict";
     }
 }

@@ -20,7 +20,7 @@ const MESSAGES: usize = 200_000;
 /// The same where nothing is timed.
 const FEW: usize = 4_000;
 /// One message in so many about a live swap ports it. A ported swap stays so,
-/// and a day about 400 swaps would soon have no others.
+/// and a day about so few swaps would soon have no others.
 const PORTING: usize = 400;
 
 /// An input file and the two programs.

@@ -2,7 +2,7 @@
 
 use crate::faults;
 use crate::ledgers::{put_header_back, put_row_back, Ledger};
-use crate::messages::{sound, sound_new};
+use crate::messages::{sound, sound_new, sound_new_by_spread};
 use crate::mixed::{Mixed, Sent};
 use crate::utis::Shape;
 use compare::random::Random;
@@ -48,6 +48,7 @@ pub struct Case {
 #[derive(Clone, Copy, PartialEq, Eq)]
 pub enum Kind {
     AcceptedNew,
+    AcceptedSpread,
     LayoutWrong,
     ActionWrong,
     DatesDisordered,
@@ -57,8 +58,9 @@ pub enum Kind {
 }
 
 impl Kind {
-    pub const ALL: [Kind; 7] = [
+    pub const ALL: [Kind; 8] = [
         Kind::AcceptedNew,
+        Kind::AcceptedSpread,
         Kind::LayoutWrong,
         Kind::ActionWrong,
         Kind::DatesDisordered,
@@ -70,6 +72,7 @@ impl Kind {
     pub fn name(self) -> &'static str {
         match self {
             Kind::AcceptedNew => "NEWT accepted",
+            Kind::AcceptedSpread => "NEWT by a spread accepted",
             Kind::LayoutWrong => "layout wrong (verdict 5)",
             Kind::ActionWrong => "action wrong (verdict 6)",
             Kind::DatesDisordered => "dates disordered (verdict 13)",
@@ -84,7 +87,9 @@ impl Kind {
     pub fn rows(self, size: usize) -> Option<usize> {
         match self {
             Kind::KnownSwap | Kind::TermLast | Kind::MixedDay if size == 0 => None,
-            Kind::AcceptedNew | Kind::MixedDay => Some(size.min(LARGEST_CAPACITY - 1)),
+            Kind::AcceptedNew | Kind::AcceptedSpread | Kind::MixedDay => {
+                Some(size.min(LARGEST_CAPACITY - 1))
+            }
             _ => Some(size),
         }
     }
@@ -97,6 +102,9 @@ impl Kind {
         match self {
             Kind::AcceptedNew => each(count, ACCEPTED, PutBack::Header, |number| {
                 sound_new(random, &unknown(number)).encode()
+            }),
+            Kind::AcceptedSpread => each(count, ACCEPTED, PutBack::Header, |number| {
+                sound_new_by_spread(random, &unknown(number)).encode()
             }),
             Kind::LayoutWrong => each(count, LAYOUT_WRONG, PutBack::Nothing, |number| {
                 faults::layout_wrong(number, &sound_new(random, &unknown(number)))

@@ -1,4 +1,4 @@
-//! Sound messages: those that break none of the rules 5 to 13.
+//! Sound messages: those that break none of the rules 5 to 13, nor 19.
 
 use compare::lists::TRUTHS;
 use compare::matrix::{events_of, is_full};
@@ -35,6 +35,19 @@ pub fn sound(random: &mut Random, action: &str, uti: &str, execution: &str) -> M
 pub fn sound_new(random: &mut Random, uti: &str) -> Message {
     let execution = execution_time(random);
     sound(random, "NEWT", uti, &execution)
+}
+
+/// A sound NEWT of a package that is quoted by a spread.
+pub fn sound_new_by_spread(random: &mut Random, uti: &str) -> Message {
+    let mut message = sound_new(random, uti);
+    message.remove(17).remove(18).remove(19);
+    name_package(random, &mut message);
+    let notation = *random.pick(&["1", "3", "4"]);
+    message.set(26, spread(random, notation)).set(27, notation);
+    if notation == "1" {
+        message.set(28, random.pick(&CURRENCIES));
+    }
+    message
 }
 
 /// An execution time; no message is sent before it.
@@ -86,11 +99,9 @@ fn set_dates(random: &mut Random, message: &mut Message) {
     message.set(9, format!("{year}-{month:02}-{:02}", day + 2));
 }
 
-/// Makes a full message one of a package.
+/// Makes a full message one of a package that is quoted by a price.
 pub fn set_package(random: &mut Random, message: &mut Message, notation: &str) {
-    message.set(15, random.pick(&["True", "true"]));
-    let length = random.between(8, 24);
-    message.set(16, random.text(length, CAPITALS_DIGITS));
+    name_package(random, message);
     message.set(17, price(random));
     message.set(18, notation);
     if notation == "1" {
@@ -98,11 +109,26 @@ pub fn set_package(random: &mut Random, message: &mut Message, notation: &str) {
     }
 }
 
+fn name_package(random: &mut Random, message: &mut Message) {
+    message.set(15, random.pick(&["True", "true"]));
+    let length = random.between(8, 24);
+    message.set(16, random.text(length, CAPITALS_DIGITS));
+}
+
 /// A price of at most 7 digits, so that both notations take it.
 fn price(random: &mut Random) -> String {
     let minus = if random.once_in(4) { "-" } else { "" };
     let whole = random.below(1_000);
     format!("{minus}{whole}.{:04}", random.below(10_000))
+}
+
+/// A spread that its notation takes. Basis points have no decimals.
+fn spread(random: &mut Random, notation: &str) -> String {
+    let number = price(random);
+    match (notation, number.split_once('.')) {
+        ("4", Some((whole, _))) => whole.to_string(),
+        _ => number,
+    }
 }
 
 /// An amount of 3 to 12 digits before the point; some are above their cap.

@@ -202,7 +202,7 @@ static void first_swap_ends(void)
     ask(FIRST);
 }
 
-/* ---- The second swap: a package, sent wrong three times, accepted, then moved to another repository ---- */
+/* ---- The second swap: a package, sent wrong three times, accepted, given a spread in place of its price, then ported ---- */
 
 static struct report package(void)
 {
@@ -237,6 +237,16 @@ static void second_swap(void)
 
     report = package();
     submit(&report);
+
+    report.value[SDR_ACTION_TYPE] = "MODI";
+    report.value[SDR_EVENT_TIMESTAMP] = "2025-03-06T11:00:00Z";
+    report.value[SDR_REPORTING_TIMESTAMP] = "2025-03-06T11:00:00Z";
+    report.value[SDR_PACKAGE_SPREAD] = "-0025";
+    report.value[SDR_SPREAD_NOTATION] = "4"; /* basis points */
+    submit(&report); /* 19: the price is still there */
+    report.value[SDR_PACKAGE_PRICE] = NULL;
+    submit(&report); /* without a price its notation and currency are left out */
+
     report = brief(SECOND, "PRTO", "PTNG", "2025-03-07T09:00:00Z");
     submit(&report); /* accepted without a line */
     ask(SECOND);

@@ -17,9 +17,9 @@ use Rattle.day.specs.declared.frame.Frame.the-variants.{Message, Overlong, Part
 use Rattle.day.specs.Frame.{lengthSize, frameOf}
 use Rattle.day.specs.Report.{heading, reportLine, lastLine}
 
--- the program opens 400 rows with all caps at 250,000,000
+-- the program opens 340 rows with all caps at 250,000,000
 abbrev pub rows : ℕ
-rows = 400
+rows = 340
 
 abbrev pub cap : ℕ
 cap = 250_000_000

@@ -16,7 +16,7 @@ use output::OUTPUT_SIZE;
 use repository::LARGEST_CAPACITY;
 
 // The rows of the day's ledger, and the cap of every asset class.
-const ROWS: usize = 400;
+const ROWS: usize = 340;
 
 const CAP: u64 = 250_000_000;
 

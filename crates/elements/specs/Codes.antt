@@ -63,3 +63,12 @@ settlementLocation = 22
 
 abbrev pub assetClass : ℕ
 assetClass = 25
+
+abbrev pub packageSpread : ℕ
+packageSpread = 26
+
+abbrev pub spreadNotation : ℕ
+spreadNotation = 27
+
+abbrev pub spreadCurrency : ℕ
+spreadCurrency = 28

@@ -3,7 +3,7 @@ use Prim.Native.Nat.{ℕ}
 use mathlib.Core.Bool.{Bool, true, false}
 use Rattle.octets.specs.Bytes.{Bytes}
 use Rattle.values.specs.Run.{isUti, isEvent, isPackageIdentifier, isCurrency, isLocation}
-use Rattle.values.specs.Code.{isTruth, isCleared, isAllocation, isPriceNotation, isAssetClass}
+use Rattle.values.specs.Code.{isTruth, isCleared, isAllocation, isPriceNotation, isSpreadNotation, isAssetClass}
 use Rattle.values.specs.Lei.{isLei}
 use Rattle.numbers.specs.Numbers.{isPrice, isNotional}
 use Rattle.dates.specs.Dates.{isDate, isTime}
@@ -11,7 +11,7 @@ use Rattle.actions.specs.Actions.{actionOf}
 use Rattle.actions.specs.declared.Checked.{Checked}
 use Rattle.actions.specs.declared.Checked.the-variants.{Fault, Value}
 use Rattle.elements.specs.declared.table.Form.{Form}
-use Rattle.elements.specs.declared.table.Form.the-variants.{Unknown, Uti, Action, Event, Time, Date, Cleared, Truth, Allocation, PackageIdentifier, Price, PriceNotation, Currency, Notional, Location, Lei, AssetClass}
+use Rattle.elements.specs.declared.table.Form.the-variants.{Unknown, Uti, Action, Event, Time, Date, Cleared, Truth, Allocation, PackageIdentifier, Price, PriceNotation, SpreadNotation, Currency, Notional, Location, Lei, AssetClass}
 use Rattle.elements.specs.Table.{elementOf}
 
 -- one of the seven
@@ -33,6 +33,7 @@ fits Allocation v = isAllocation v
 fits PackageIdentifier v = isPackageIdentifier v
 fits Price v = isPrice v
 fits PriceNotation v = isPriceNotation v
+fits SpreadNotation v = isSpreadNotation v
 fits Currency v = isCurrency v
 fits Notional v = isNotional v
 fits Location v = isLocation v

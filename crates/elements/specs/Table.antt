@@ -3,11 +3,11 @@ use Prim.Native.Nat.{ℕ, _-_}
 use mathlib.Core.List.{List, [], _∷_}
 use lib.ListN.{length, getD}
 use Rattle.elements.specs.declared.table.Form.{Form}
-use Rattle.elements.specs.declared.table.Form.the-variants.{Unknown, Uti, Action, Event, Time, Date, Cleared, Truth, Allocation, PackageIdentifier, Price, PriceNotation, Currency, Notional, Location, Lei, AssetClass}
+use Rattle.elements.specs.declared.table.Form.the-variants.{Unknown, Uti, Action, Event, Time, Date, Cleared, Truth, Allocation, PackageIdentifier, Price, PriceNotation, SpreadNotation, Currency, Notional, Location, Lei, AssetClass}
 use Rattle.elements.specs.declared.table.Kinds.{Kinds}
 use Rattle.elements.specs.declared.table.Kinds.the-variants.{None, All, Full}
 use Rattle.elements.specs.declared.table.Condition.{Condition}
-use Rattle.elements.specs.declared.table.Condition.the-variants.{Never, Always, ClearedIsN, Package, InCurrency}
+use Rattle.elements.specs.declared.table.Condition.the-variants.{Never, Always, ClearedIsN, Package, NoSpread, HasPrice, MonetaryPrice, HasSpread, MonetarySpread}
 use Rattle.elements.specs.declared.table.Public.{Public}
 use Rattle.elements.specs.declared.table.Public.the-variants.{Hidden, Masked, Shown}
 use Rattle.elements.specs.declared.table.Element.{Element}
@@ -39,15 +39,18 @@ elements =
     ∷ row Allocation Full Full Never Never Hidden  -- 14 allocation
     ∷ row Truth Full Full Never Always Shown  -- 15 package indicator
     ∷ row PackageIdentifier Full None Package Never Hidden  -- 16 package identifier
-    ∷ row Price Full None Package Package Shown  -- 17 package price
-    ∷ row PriceNotation Full None Package Package Shown  -- 18 price notation
-    ∷ row Currency Full None InCurrency InCurrency Shown  -- 19 price currency
+    ∷ row Price Full None NoSpread Package Shown  -- 17 package price
+    ∷ row PriceNotation Full None HasPrice HasPrice Shown  -- 18 price notation
+    ∷ row Currency Full None MonetaryPrice MonetaryPrice Shown  -- 19 price currency
     ∷ row Notional Full Full Never Always Masked  -- 20 notional amount
     ∷ row Currency Full Full Never Always Shown  -- 21 notional currency
     ∷ row Location Full None Never Always Shown  -- 22 settlement location
     ∷ row Lei Full Full Never Never Hidden  -- 23 counterparty 1
     ∷ row Lei Full Full Never Never Hidden  -- 24 counterparty 2
     ∷ row AssetClass Full Full Never Always Shown  -- 25 asset class
+    ∷ row Price Full None Never Package Shown  -- 26 package spread
+    ∷ row SpreadNotation Full None HasSpread HasSpread Shown  -- 27 spread notation
+    ∷ row Currency Full None MonetarySpread MonetarySpread Shown  -- 28 spread currency
     ∷ []
 
 unfoldable pub elementOf : ℕ → Element

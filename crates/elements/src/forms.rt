@@ -33,6 +33,7 @@ fn fits_form(form: Form, v: &[u8]) -> bool
         Form::PackageIdentifier => values::is_package_identifier(v),
         Form::Price => numbers::is_price(v),
         Form::PriceNotation => values::is_price_notation(v),
+        Form::SpreadNotation => values::is_spread_notation(v),
         Form::Currency => values::is_currency(v),
         Form::Notional => numbers::is_notional(v),
         Form::Location => values::is_location(v),

@@ -58,3 +58,9 @@ pub const NOTIONAL_CURRENCY: u8 = 21;
 pub const SETTLEMENT_LOCATION: u8 = 22;
 
 pub const ASSET_CLASS: u8 = 25;
+
+pub const PACKAGE_SPREAD: u8 = 26;
+
+pub const SPREAD_NOTATION: u8 = 27;
+
+pub const SPREAD_CURRENCY: u8 = 28;

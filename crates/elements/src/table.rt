@@ -19,6 +19,7 @@ pub enum Form {
     PackageIdentifier,
     Price,
     PriceNotation,
+    SpreadNotation,
     Currency,
     Notional,
     Location,
@@ -38,7 +39,11 @@ pub enum Condition {
     Always,
     ClearedIsN,
     Package,
-    InCurrency,
+    NoSpread,
+    HasPrice,
+    MonetaryPrice,
+    HasSpread,
+    MonetarySpread,
 }
 
 pub enum Public {
@@ -59,7 +64,7 @@ pub struct Element {
 }
 
 // The last code of the table.
-pub const LAST_CODE: u8 = 25;
+pub const LAST_CODE: u8 = 28;
 
 // Full messages take each code up to the first, other ones up to the second.
 pub const LAST_FULL: u8 = LAST_CODE;
@@ -111,15 +116,18 @@ pub fn element_of(code: u8) -> Element
         14 => row(Allocation, Full, Full, Never, Never, Hidden), // allocation
         15 => row(Truth, Full, Full, Never, Always, Shown), // package indicator
         16 => row(PackageIdentifier, Full, None, Package, Never, Hidden), // package identifier
-        17 => row(Price, Full, None, Package, Package, Shown), // package price
-        18 => row(PriceNotation, Full, None, Package, Package, Shown), // price notation
-        19 => row(Currency, Full, None, InCurrency, InCurrency, Shown), // price currency
+        17 => row(Price, Full, None, NoSpread, Package, Shown), // package price
+        18 => row(PriceNotation, Full, None, HasPrice, HasPrice, Shown), // price notation
+        19 => row(Currency, Full, None, MonetaryPrice, MonetaryPrice, Shown), // price currency
         20 => row(Notional, Full, Full, Never, Always, Masked), // notional amount
         21 => row(Currency, Full, Full, Never, Always, Shown), // notional currency
         22 => row(Location, Full, None, Never, Always, Shown), // settlement location
         23 => row(Lei, Full, Full, Never, Never, Hidden), // counterparty 1
         24 => row(Lei, Full, Full, Never, Never, Hidden), // counterparty 2
         25 => row(AssetClass, Full, Full, Never, Always, Shown), // asset class
+        26 => row(Price, Full, None, Never, Package, Shown), // package spread
+        27 => row(SpreadNotation, Full, None, HasSpread, HasSpread, Shown), // spread notation
+        28 => row(Currency, Full, None, MonetarySpread, MonetarySpread, Shown), // spread currency
         _ => row(Unknown, None, None, Never, Never, Hidden),
     }
 }

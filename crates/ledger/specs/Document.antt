@@ -17,14 +17,15 @@ use Rattle.ledger.specs.Rows.{rowFields}
 
 -- the tape line: identifier, previous one, action, event, event time, masked terms, newline
 abbrev pub linePlaces : List (ℕ × ℕ)
-linePlaces = (0, 12) ∷ (12, 12) ∷ (24, 4) ∷ (28, 4) ∷ (32, 20) ∷ (52, 93) ∷ (145, 1) ∷ []
+linePlaces = (0, 12) ∷ (12, 12) ∷ (24, 4) ∷ (28, 4) ∷ (32, 20) ∷ (52, 117) ∷ (169, 1) ∷ []
 
 -- the masked terms: execution time, effective, expiration, Cleared, non-standardized, block, large, package, price, notation, price currency, asset class,
--- notional, plus sign, notional currency, location
+-- notional, plus sign, notional currency, location, spread, notation, spread currency
 abbrev pub termPlaces : List (ℕ × ℕ)
 termPlaces =
     (52, 20) ∷ (72, 10) ∷ (82, 10) ∷ (92, 1) ∷ (93, 1) ∷ (94, 1) ∷ (95, 1) ∷ (96, 1)
-    ∷ (97, 20) ∷ (117, 1) ∷ (118, 3) ∷ (121, 2) ∷ (123, 16) ∷ (139, 1) ∷ (140, 3) ∷ (143, 2) ∷ []
+    ∷ (97, 20) ∷ (117, 1) ∷ (118, 3) ∷ (121, 2) ∷ (123, 16) ∷ (139, 1) ∷ (140, 3) ∷ (143, 2)
+    ∷ (145, 20) ∷ (165, 1) ∷ (166, 3) ∷ []
 
 -- the header: rows in use, offset of the first row, next identifier, five caps, row size, capacity
 abbrev pub headerPlaces : List (ℕ × ℕ)
@@ -32,7 +33,7 @@ headerPlaces = (0, 4) ∷ (4, 4) ∷ (8, 8) ∷ (16, 8) ∷ (24, 8) ∷ (32, 8) 
 
 -- a row: status, UTI length, UTI, identifier, masked terms, zero
 abbrev pub rowPlaces : List (ℕ × ℕ)
-rowPlaces = (0, 1) ∷ (1, 1) ∷ (2, 52) ∷ (54, 8) ∷ (62, 93) ∷ (155, 5) ∷ []
+rowPlaces = (0, 1) ∷ (1, 1) ∷ (2, 52) ∷ (54, 8) ∷ (62, 117) ∷ (179, 5) ∷ []
 
 -- ---- the definitions have these numbers
 
@@ -51,7 +52,7 @@ pub record Document-sizes : Type 0 where
   -- the header has a cap for each asset class that code 25 admits, in this order
   pub classes : (caps : Caps) → map (λ c. c .0) (classCaps caps) ≡ assetClasses
   -- the sizes
-  pub lineSized : lineSize ≡ 146
+  pub lineSized : lineSize ≡ 170
   pub headerSized : headerSize ≡ 64
-  pub rowSized : rowSize ≡ 160
-  pub shortest : shortestLedger ≡ 224
+  pub rowSized : rowSize ≡ 184
+  pub shortest : shortestLedger ≡ 248

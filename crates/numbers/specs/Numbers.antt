@@ -1,4 +1,4 @@
--- Specification, clauses 4.7 to 4.9: numbers, and the forms of codes 17 and 20.
+-- Specification, clauses 4.7 to 4.9: numbers, and the forms of codes 17, 20 and 26.
 use Prim.Native.Nat.{ℕ, _+_}
 use Prim.Native.Char.{code}
 use mathlib.Core.Bool.{Bool, true}
@@ -10,7 +10,7 @@ use Rattle.octets.specs.Search.{first}
 use Rattle.values.specs.Run.{runOf}
 use Rattle.values.specs.declared.run.Class.the-variants.{Digit}
 
--- code 17: digits in all and after the point
+-- codes 17 and 26: digits in all and after the point
 abbrev pub priceDigits : ℕ
 priceDigits = 18
 
@@ -44,14 +44,14 @@ isNumber a b v =
     both (runOf 1 a Digit (wholeOf v))
     (choose (hasPoint v) (both (runOf 1 b Digit (decimalsOf v)) (leb (length (wholeOf v) + length (decimalsOf v)) a)) true)
 
--- code 17 may open with a minus
+-- codes 17 and 26 may open with a minus
 abbrev pub hasMinus : Bytes → Bool
 hasMinus v = eqb (getD v 0 0) (code "-")
 
 unfoldable pub unsignedOf : Bytes → Bytes
 unsignedOf v = choose (hasMinus v) (drop 1 v) v
 
--- code 17: at most 18 digits, 13 after the point
+-- codes 17 and 26: at most 18 digits, 13 after the point
 unfoldable pub isPrice : Bytes → Bool
 isPrice v = isNumber priceDigits priceDecimals (unsignedOf v)
 

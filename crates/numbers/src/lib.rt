@@ -1,4 +1,4 @@
-// Decimal numbers (specification, clauses 4.7 to 4.9): the forms of codes 17 and 20.
+// Decimal numbers (specification, clauses 4.7 to 4.9): the forms of codes 17, 20 and 26.
 ghost use mathlib.Core.Path.{_≡_};
 ghost use Prim.Native.Nat.{_≤_};
 ghost use lib.ListN.{length};

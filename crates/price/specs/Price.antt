@@ -1,4 +1,4 @@
--- Specification, clause 7.4: the price, code 17, as a line shows it.
+-- Specification, clause 7.4: the price, code 17, or the spread, code 26, as a line shows it.
 use Prim.Native.Nat.{ℕ}
 use Prim.Native.Char.{code}
 use mathlib.Core.Bool.{Bool, not}

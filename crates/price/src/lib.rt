@@ -1,4 +1,4 @@
-// The price of a tape line, code 17: specification, clause 7.4.
+// The price or the spread in a tape line, codes 17 and 26: specification, clause 7.4.
 ghost use mathlib.Core.Path.{_≡_};
 ghost use Prim.Native.Nat.{ℕ, _+_, _≤_};
 ghost use mathlib.Core.List.{List, _++_};

@@ -1,4 +1,4 @@
-// The decision on a message: rules 3 to 18 in checking order. Reads only.
+// The decision on a message: the rules of a submission in checking order. Reads only.
 ghost use Prim.Native.Nat.{ℕ};
 ghost use mathlib.Core.Path.{_≡_};
 ghost use Rattle.octets.specs.Bytes.{Bytes};
@@ -145,7 +145,7 @@ fn decide_tape(l: &[u8], tape: &[u8], m: &[u8], longest: usize, header: Header) 
     decide_message(l, m, longest, header)
 }
 
-// 5 to 13, the rules of the message alone
+// the rules of the message alone
 fn decide_message(l: &[u8], m: &[u8], longest: usize, header: Header) -> Decision
     requires { ⌜ HeaderRead header (now l) ⌝ }
     ensures { λ r. ⌜ ((largest : ℕ) (b : Buffers) → r ≡ decisionFrom layoutWrong (limitsOf longest largest) (record { ledger = now (l .entry); buffers = b }) (now (m .entry))) ⌝ }

@@ -1,6 +1,6 @@
--- Specification, section 9: rules 5 to 13, which judge a message alone.
+-- Specification, section 9: rules 5 to 13 and 19, which judge a message alone.
 use Prim.Native.Nat.{ℕ, _+_}
-use mathlib.Core.Bool.{Bool, not}
+use mathlib.Core.Bool.{Bool, false, not}
 use mathlib.Core.Path.{_≡_}
 use mathlib.Core.List.{List, [], _∷_}
 use lib.ListN.{length}
@@ -17,11 +17,11 @@ use Rattle.actions.specs.declared.Checked.the-variants as checked
 use Rattle.actions.specs.Actions.{actionType, actionOf, isFull}
 use Rattle.elements.specs.Messages.{hasLayout, takes, needs}
 use Rattle.actions.specs.Matrix.{pairAllowed}
-use Rattle.elements.specs.Codes.{eventType, reportingTimestamp, executionTimestamp, effectiveDate, expirationDate, settlementDate, packagePrice, priceNotation}
+use Rattle.elements.specs.Codes.{eventType, reportingTimestamp, executionTimestamp, effectiveDate, expirationDate, settlementDate, packagePrice, priceNotation, packageSpread, spreadNotation}
 use Rattle.elements.specs.Forms.{hasForm}
-use Rattle.elements.specs.Conditions.{isPackage, valueIs, factsOf, isDue}
+use Rattle.elements.specs.Conditions.{isPackage, valueIs, isQuoted, factsOf, isDue}
 use Rattle.elements.specs.declared.conditions.Facts.{Facts}
-use Rattle.rules.specs.Verdicts.{layoutWrong, actionWrong, elementMissing, elementNotTaken, formBroken, notAPair, conditionalMissing, priceTooLong, datesDisordered}
+use Rattle.rules.specs.Verdicts.{layoutWrong, actionWrong, elementMissing, elementNotTaken, formBroken, notAPair, conditionalMissing, priceAndSpread, priceTooLong, datesDisordered}
 use Rattle.rules.specs.Findings.{Finding, passed, broken, lowest, Rule, test, naming, firstBroken, fromRule}
 use Rattle.rules.specs.declared.Judged.{Judged}
 use Rattle.rules.specs.declared.Judged.the-variants as answer
@@ -58,24 +58,36 @@ numberOf Taken = elementNotTaken
 numberOf Formed = formBroken
 numberOf Due = conditionalMissing
 
+-- a package has both price and spread (19)
+unfoldable pub hasBothQuotes : Bytes → Bool
+hasBothQuotes m = both (isQuoted packagePrice m) (isQuoted packageSpread m)
+
 -- an unsigned number has more digits than these, in all or after the point
 unfoldable pub longer : ℕ → ℕ → Bytes → Bool
 longer digits decimals v = either (ltb digits (length (wholeOf v) + length (decimalsOf v))) (ltb decimals (length (decimalsOf v)))
 
--- the most digits under notation 3, in all and after the point (12)
+-- the most digits under notations 3 and 4, in all and after the point (12)
 abbrev pub notationThreeDigits : ℕ
 notationThreeDigits = 11
 
 abbrev pub notationThreeDecimals : ℕ
 notationThreeDecimals = 10
 
--- a price has more digits than its notation allows, as it was sent
-unfoldable pub longQuote : ℕ → ℕ → Bytes → Bool
-longQuote price notation m = both (valueIs notation (text "3") m) (longer notationThreeDigits notationThreeDecimals (unsignedOf (value price m)))
+abbrev pub notationFourDigits : ℕ
+notationFourDigits = 5
 
--- the price of a package is too long (12)
+abbrev pub notationFourDecimals : ℕ
+notationFourDecimals = 0
+
+-- a price or a spread has more digits than its notation allows, as it was sent
+unfoldable pub longQuote : ℕ → ℕ → Bytes → Bool
+longQuote price notation m =
+    choose (valueIs notation (text "3") m) (longer notationThreeDigits notationThreeDecimals (unsignedOf (value price m)))
+    (choose (valueIs notation (text "4") m) (longer notationFourDigits notationFourDecimals (unsignedOf (value price m))) false)
+
+-- the price or the spread of a package is too long (12)
 unfoldable pub hasLongPrice : Bytes → Bool
-hasLongPrice m = both (isPackage m) (longQuote packagePrice priceNotation m)
+hasLongPrice m = both (isPackage m) (either (longQuote packagePrice priceNotation m) (longQuote packageSpread spreadNotation m))
 
 -- dates and times of a full message are out of order (13)
 abbrev pub elementBefore : Bytes → ℕ → ℕ → Bool
@@ -87,7 +99,7 @@ outOfOrder a m =
     (either (elementBefore m expirationDate effectiveDate)
     (either (elementBefore m settlementDate expirationDate) (elementBefore m reportingTimestamp executionTimestamp)))
 
--- rules 7 to 13, for the message's action
+-- rules 7 to 13 and 19, for the message's action
 unfoldable pub rulesOf : Action → Bytes → List Rule
 rulesOf a m =
     naming elementMissing (lowest (atFault Needed a m))
@@ -95,6 +107,7 @@ rulesOf a m =
     ∷ naming formBroken (lowest (atFault Formed a m))
     ∷ test notAPair (not (pairAllowed a (value eventType m)))
     ∷ naming conditionalMissing (lowest (atFault Due a m))
+    ∷ test priceAndSpread (hasBothQuotes m)
     ∷ test priceTooLong (hasLongPrice m)
     ∷ test datesDisordered (outOfOrder a m)
     ∷ []
@@ -119,7 +132,7 @@ actionIn m = actionOf (value actionType m)
 abbrev pub rules : ℕ → Bytes → List Rule
 rules longest m = rulesFor (actionIn m) longest m
 
--- verdict and element of a message alone; 0 and 0 where no rule from 5 to 13 is broken
+-- verdict and element of a message alone; 0 and 0 where no rule is broken
 unfoldable pub verdict : ℕ → Bytes → ℕ × ℕ
 verdict longest m = firstBroken (rules longest m)
 

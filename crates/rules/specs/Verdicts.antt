@@ -29,7 +29,11 @@ notAPair = 10
 abbrev pub conditionalMissing : ℕ
 conditionalMissing = 11
 
--- The price of a package with notation 3 has more than 11 digits, or more than 10 after the point.
+-- A package has both price and spread.
+abbrev pub priceAndSpread : ℕ
+priceAndSpread = 19
+
+-- The price or the spread of a package has more digits than its notation allows.
 abbrev pub priceTooLong : ℕ
 priceTooLong = 12
 

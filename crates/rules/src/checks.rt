@@ -3,11 +3,12 @@ ghost use mathlib.Core.Path.{_≡_};
 ghost use Prim.Native.Nat.{_-_, _*_, _<_, _≤_};
 ghost use lib.ListN.{length};
 ghost use Rattle.message.specs.Layout.{countSize, entrySize};
-ghost use Rattle.message.specs.Values.{entries, isThere};
+ghost use Rattle.message.specs.Values.{entries, value, isThere};
 ghost use Rattle.message.specs.Reading.{Laid, Reached};
+ghost use Rattle.numbers.specs.Numbers.{unsignedOf};
 ghost use Rattle.elements.specs.Conditions.{factsOf};
 ghost use Rattle.rules.specs.Findings.{lowest};
-ghost use Rattle.rules.specs.Rules.{answerOf, atFault, FactsFor, longer, longQuote, hasLongPrice, elementBefore, outOfOrder};
+ghost use Rattle.rules.specs.Rules.{answerOf, atFault, FactsFor, hasBothQuotes, longer, longQuote, hasLongPrice, elementBefore, outOfOrder};
 use actions::Action;
 use actions::Checked;
 use elements::EFFECTIVE_DATE;
@@ -17,15 +18,18 @@ use elements::Facts;
 use elements::LAST_CODE;
 use elements::NO_FACTS;
 use elements::PACKAGE_PRICE;
+use elements::PACKAGE_SPREAD;
 use elements::PRICE_NOTATION;
 use elements::REPORTING_TIMESTAMP;
 use elements::SETTLEMENT_DATE;
+use elements::SPREAD_NOTATION;
 use message::element;
 use message::entries_of;
 use message::is_here;
 use message::last_code;
 use message::next_place;
 use message::value_here;
+use octets::same;
 
 // The checks that name the lowest element code at fault: 7, 8, 9 and 11.
 pub enum Check {
@@ -35,10 +39,14 @@ pub enum Check {
     Due,
 }
 
-// The most digits under notation 3, in all and after the point.
+// The most digits under notations 3 and 4, in all and after the point.
 const NOTATION_THREE_DIGITS: usize = 11;
 
 const NOTATION_THREE_DECIMALS: usize = 10;
+
+const NOTATION_FOUR_DIGITS: usize = 5;
+
+const NOTATION_FOUR_DECIMALS: usize = 0;
 
 // Whether an element is at fault: `here` says whether it is there, at the place that the reader has come to among n entries.
 fn is_at_fault(
@@ -119,10 +127,19 @@ pub fn lowest_not_taken(m: &[u8], action: Action) -> Checked
     lowest_fault(m, NO_FACTS, action, Check::Taken)
 }
 
-// Whether an unsigned number has more digits than these, in all or after the point.
-fn is_longer(v: &[u8], most_digits: usize, most_decimals: usize) -> bool
-    ensures { λ r. ⌜ r ≡ longer «most_digits» «most_decimals» (now (v .entry)) ⌝ }
+// Whether a package has both price and spread.
+pub fn has_both_quotes(m: &[u8], facts: Facts) -> bool
+    requires { ⌜ facts ≡ factsOf (now m) ⌝ }
+    ensures { λ r. ⌜ r ≡ hasBothQuotes (now (m .entry)) ⌝ }
 {
+    facts.price.there && facts.spread.there
+}
+
+// Whether a number has more digits than these, in all or after the point.
+fn is_longer(m: &[u8], code: u8, most_digits: usize, most_decimals: usize) -> bool
+    ensures { λ r. ⌜ r ≡ longer «most_digits» «most_decimals» (unsignedOf (value code (now (m .entry)))) ⌝ }
+{
+    let v = numbers::unsigned_of(element(m, code));
     let whole = numbers::whole_of(v);
     let decimals = numbers::decimals_of(v);
     if most_digits < whole.len() + decimals.len() {
@@ -131,21 +148,21 @@ fn is_longer(v: &[u8], most_digits: usize, most_decimals: usize) -> bool
     most_decimals < decimals.len()
 }
 
-// Whether a price has more digits than its notation allows.
+// Whether a price or a spread has more digits than its notation allows.
 fn is_long_quote(m: &[u8], price: u8, notation: u8) -> bool
     ensures { λ r. ⌜ r ≡ longQuote price notation (now (m .entry)) ⌝ }
 {
-    if !elements::value_is(m, notation, b"3") {
-        return false;
+    let v = element(m, notation);
+    if same(v, b"3") {
+        return is_longer(m, price, NOTATION_THREE_DIGITS, NOTATION_THREE_DECIMALS);
     }
-    is_longer(
-        numbers::unsigned_of(element(m, price)),
-        NOTATION_THREE_DIGITS,
-        NOTATION_THREE_DECIMALS,
-    )
+    if same(v, b"4") {
+        return is_longer(m, price, NOTATION_FOUR_DIGITS, NOTATION_FOUR_DECIMALS);
+    }
+    false
 }
 
-// Whether the price of a package is too long.
+// Whether the price or the spread of a package is too long.
 pub fn has_long_price(m: &[u8], facts: Facts) -> bool
     requires { ⌜ facts ≡ factsOf (now m) ⌝ }
     ensures { λ r. ⌜ r ≡ hasLongPrice (now (m .entry)) ⌝ }
@@ -153,7 +170,10 @@ pub fn has_long_price(m: &[u8], facts: Facts) -> bool
     if !facts.packaged {
         return false;
     }
-    is_long_quote(m, PACKAGE_PRICE, PRICE_NOTATION)
+    if is_long_quote(m, PACKAGE_PRICE, PRICE_NOTATION) {
+        return true;
+    }
+    is_long_quote(m, PACKAGE_SPREAD, SPREAD_NOTATION)
 }
 
 // Whether the value of one element is before that of another.

@@ -1,4 +1,4 @@
-// Verdicts 5 to 13 (specification, section 9): what is judged of a message alone.
+// Verdicts 5 to 13 and 19 (specification, section 9): what is judged of a message alone.
 mod checks;
 mod verdicts;
 
@@ -8,12 +8,13 @@ ghost use mathlib.Core.Path.{_≡_};
 ghost use Rattle.message.specs.Reading.{Laid};
 ghost use Rattle.elements.specs.Conditions.{factsOf};
 ghost use Rattle.actions.specs.declared.Checked.the-variants.{Value};
-ghost use Rattle.rules.specs.Verdicts.{actionWrong, elementMissing, elementNotTaken, formBroken, notAPair, conditionalMissing, priceTooLong, datesDisordered};
+ghost use Rattle.rules.specs.Verdicts.{actionWrong, elementMissing, elementNotTaken, formBroken, notAPair, conditionalMissing, priceAndSpread, priceTooLong, datesDisordered};
 ghost use Rattle.rules.specs.Rules.{actionIn, verdict, judged, judgedFrom, judgedBy, verdictOf};
 use actions::ACTION_TYPE;
 use actions::Action;
 use actions::Checked;
 use checks::Check;
+use checks::has_both_quotes;
 use checks::has_long_price;
 use checks::is_out_of_order;
 use checks::lowest_fault;
@@ -28,6 +29,7 @@ use verdicts::DATES_DISORDERED;
 use verdicts::ELEMENT_MISSING;
 use verdicts::ELEMENT_NOT_TAKEN;
 use verdicts::NOT_A_PAIR;
+use verdicts::PRICE_AND_SPREAD;
 use verdicts::PRICE_TOO_LONG;
 
 // A refusal, with verdict and element, or the action of a message that no rule refuses.
@@ -128,6 +130,17 @@ fn judge_due(m: &[u8], action: Action) -> Judged
     let Checked::Value(action) = due else {
         return judged_by(CONDITIONAL_MISSING, due);
     };
+    judge_quotes(m, facts, action)
+}
+
+// 19
+fn judge_quotes(m: &[u8], facts: Facts, action: Action) -> Judged
+    requires { ⌜ facts ≡ factsOf (now m) ⌝ }
+    ensures { λ r. ⌜ r ≡ judgedFrom priceAndSpread (Value action) (now (m .entry)) ⌝ }
+{
+    if has_both_quotes(m, facts) {
+        return Judged::Refused(PRICE_AND_SPREAD, 0);
+    }
     judge_price(m, facts, action)
 }
 

@@ -13,6 +13,8 @@ pub const NOT_A_PAIR: u8 = 10;
 
 pub const CONDITIONAL_MISSING: u8 = 11;
 
+pub const PRICE_AND_SPREAD: u8 = 19;
+
 pub const PRICE_TOO_LONG: u8 = 12;
 
 pub const DATES_DISORDERED: u8 = 13;

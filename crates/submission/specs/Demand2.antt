@@ -50,7 +50,7 @@ pub record RightRow (next : ℕ) (r : Bytes) : Type 0 where
   pub given : 1 ≤ identifierOf r
   pub before : identifierOf r < next
 
--- what the specification asks of a message that is accepted, in words: 3 and 4, the message alone (5 to 13), and 14 to 18
+-- what the specification asks of a message that is accepted, in words: 3 and 4, the message alone, and 14 to 18
 pub record RulesAccept (limits : Limits) (lent : Lent) (m : Bytes) : Type 0 where
   pub action : Action
   pub reads : actionIn m ≡ Value action

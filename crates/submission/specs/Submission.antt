@@ -82,7 +82,7 @@ abbrev pub afterRules : Checked → Bytes → Bytes → List Rule
 afterRules (Fault code) l m = []
 afterRules (Value a) l m = rulesIn a l m
 
--- 3 and 4, then the rules of the message alone, 5 to 13, then 14 to 18
+-- 3 and 4, then the rules of the message alone, then 14 to 18
 unfoldable pub submissionRules : Limits → Checked → Lent → Bytes → List Rule
 submissionRules limits action lent m =
     test ledgerWrong (not (headerRight (limits .largest) (lent .ledger)))

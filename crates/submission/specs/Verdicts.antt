@@ -44,7 +44,7 @@ abbrev pub openingNumbers : List ℕ
 openingNumbers = 1 ∷ 2 ∷ []
 
 abbrev pub submissionNumbers : List ℕ
-submissionNumbers = 3 ∷ 4 ∷ 5 ∷ 6 ∷ 7 ∷ 8 ∷ 9 ∷ 10 ∷ 11 ∷ 12 ∷ 13 ∷ 14 ∷ 15 ∷ 16 ∷ 17 ∷ 18 ∷ []
+submissionNumbers = 3 ∷ 4 ∷ 5 ∷ 6 ∷ 7 ∷ 8 ∷ 9 ∷ 10 ∷ 11 ∷ 19 ∷ 12 ∷ 13 ∷ 14 ∷ 15 ∷ 16 ∷ 17 ∷ 18 ∷ []
 
 abbrev pub questionNumbers : List ℕ
 questionNumbers = 3 ∷ 9 ∷ 14 ∷ []

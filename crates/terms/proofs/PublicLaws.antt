@@ -5,9 +5,9 @@ use mathlib.Core.Path.{_≡_, refl, ap, ap₂}
 use mathlib.Core.List.{[]}
 use Rattle.octets.specs.Bytes.{Bytes}
 use Rattle.octets.specs.Choice.{choose}
-use Rattle.message.specs.Values.{value}
-use Rattle.elements.specs.Codes.{executionTimestamp, effectiveDate, expirationDate, cleared, nonStandardizedTerm, blockElection, largeNotionalElection, packageIndicator, packagePrice, priceNotation, priceCurrency, notionalAmount, notionalCurrency, settlementLocation, assetClass}
-use Rattle.elements.specs.Conditions.{isPackage, valueIs, factsOf, met, kept}
+use Rattle.message.specs.Values.{value, isThere}
+use Rattle.elements.specs.Codes.{executionTimestamp, effectiveDate, expirationDate, cleared, nonStandardizedTerm, blockElection, largeNotionalElection, packageIndicator, packagePrice, priceNotation, priceCurrency, notionalAmount, notionalCurrency, settlementLocation, assetClass, packageSpread, spreadNotation, spreadCurrency}
+use Rattle.elements.specs.Conditions.{isPackage, valueIs, isQuoted, quoteOf, factsOf, met, kept}
 use Rattle.elements.specs.Table.{elementOf}
 use Rattle.terms.specs.Terms.{termsOf}
 use Rattle.terms.specs.Public.{isPublicTerm, Agree, Terms-public}
@@ -17,8 +17,16 @@ use Rattle.terms.proofs.TermLaws.{notional-fits}
 module _ (m₁ m₂ : Bytes) (same : Agree m₁ m₂) where
   -- the conditions are about public elements
   facts-same : factsOf m₁ ≡ factsOf m₂
-  unfolding factsOf isPackage valueIs elementOf isPublicTerm
-  facts-same = rw (same cleared refl, same packageIndicator refl, same priceNotation refl)
+  unfolding factsOf quoteOf isQuoted isPackage isThere valueIs elementOf isPublicTerm
+  facts-same =
+      rw (
+        same cleared refl,
+        same packageIndicator refl,
+        same packagePrice refl,
+        same priceNotation refl,
+        same packageSpread refl,
+        same spreadNotation refl,
+      )
 
   kept-same : (code : ℕ) → isPublicTerm code ≡ true → kept code m₁ ≡ kept code m₂
   unfolding kept
@@ -52,6 +60,9 @@ terms-public cap₁ cap₂ m₁ m₂ same masked =
       k notionalCurrency refl,
       k settlementLocation refl,
       k assetClass refl,
+      k packageSpread refl,
+      k spreadNotation refl,
+      k spreadCurrency refl,
     )
 
 -- what `write_terms` cites

@@ -9,7 +9,7 @@ use Rattle.octets.specs.Number.{digits}
 use Rattle.octets.specs.Fields.{FieldText, sizeOf, bytesOf}
 use Rattle.values.specs.Code.{isTrue}
 use Rattle.values.specs.Limits.{currencySize, locationSize}
-use Rattle.elements.specs.Codes.{executionTimestamp, effectiveDate, expirationDate, cleared, nonStandardizedTerm, blockElection, largeNotionalElection, packageIndicator, packagePrice, priceNotation, priceCurrency, notionalAmount, notionalCurrency, settlementLocation, assetClass}
+use Rattle.elements.specs.Codes.{executionTimestamp, effectiveDate, expirationDate, cleared, nonStandardizedTerm, blockElection, largeNotionalElection, packageIndicator, packagePrice, priceNotation, priceCurrency, notionalAmount, notionalCurrency, settlementLocation, assetClass, packageSpread, spreadNotation, spreadCurrency}
 use Rattle.elements.specs.Conditions.{kept}
 use Rattle.notional.specs.Amount.{amount}
 use Rattle.notional.specs.Masking.{over, shown}
@@ -40,7 +40,7 @@ notionalSize = 16
 unfoldable pub shownTruth : Bytes → Bytes
 shownTruth v = choose (empty v) [] (choose (isTrue v) (text "T") (text "F"))
 
--- a price that is missing or left out shows nothing
+-- a price or a spread that is missing or left out shows nothing
 unfoldable pub priceText : Bytes → Bytes
 priceText v = choose (empty v) [] (shownPrice v)
 
@@ -68,7 +68,7 @@ truthFields m =
     ∷ (markSize, shownTruth (kept packageIndicator m))
     ∷ []
 
--- a price, its notation, its currency
+-- a price or a spread, its notation, its currency
 abbrev pub quoteFields : ℕ → ℕ → ℕ → Bytes → List FieldText
 quoteFields price notation currency m =
     (priceSize, priceText (kept price m))
@@ -93,9 +93,13 @@ notionalFields cap m =
     ∷ (locationSize, kept settlementLocation m)
     ∷ []
 
+-- spread, notation, spread currency
+abbrev pub spreadFields : Bytes → List FieldText
+spreadFields m = quoteFields packageSpread spreadNotation spreadCurrency m
+
 -- the masked terms of a full message under the cap that applies
 abbrev pub termFields : ℕ → Bytes → List FieldText
-termFields cap m = dateFields m ++ (truthFields m ++ (priceFields m ++ notionalFields cap m))
+termFields cap m = dateFields m ++ (truthFields m ++ (priceFields m ++ (notionalFields cap m ++ spreadFields m)))
 
 unfoldable pub termsOf : ℕ → Bytes → Bytes
 termsOf cap m = bytesOf (termFields cap m)
@@ -111,5 +115,8 @@ priceAt = nonStandardizedAt + sizeOf (truthFields [])
 abbrev pub classAt : ℕ
 classAt = priceAt + sizeOf (priceFields [])
 
+abbrev pub spreadAt : ℕ
+spreadAt = classAt + sizeOf (notionalFields 0 [])
+
 abbrev pub termsSize : ℕ
-termsSize = classAt + sizeOf (notionalFields 0 [])
+termsSize = spreadAt + sizeOf (spreadFields [])

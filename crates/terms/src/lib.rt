@@ -24,9 +24,12 @@ use elements::NOTIONAL_AMOUNT;
 use elements::NOTIONAL_CURRENCY;
 use elements::PACKAGE_INDICATOR;
 use elements::PACKAGE_PRICE;
+use elements::PACKAGE_SPREAD;
 use elements::PRICE_CURRENCY;
 use elements::PRICE_NOTATION;
 use elements::SETTLEMENT_LOCATION;
+use elements::SPREAD_CURRENCY;
+use elements::SPREAD_NOTATION;
 use notional::Masked;
 use octets::field_at;
 use values::CURRENCY_SIZE;
@@ -41,7 +44,7 @@ const MARK_SIZE: usize = 1;
 
 pub const PRICE_SIZE: usize = 20;
 
-// A price, its notation, its currency.
+// A price or a spread, its notation, its currency.
 const QUOTE_SIZE: usize = PRICE_SIZE + MARK_SIZE + CURRENCY_SIZE;
 
 const CLASS_SIZE: usize = 2;
@@ -77,8 +80,10 @@ const NOTIONAL_CURRENCY_AT: usize = PLUS_AT + MARK_SIZE;
 
 const LOCATION_AT: usize = NOTIONAL_CURRENCY_AT + CURRENCY_SIZE;
 
+const SPREAD_AT: usize = LOCATION_AT + LOCATION_SIZE;
+
 // The size of the terms.
-pub const SIZE: usize = LOCATION_AT + LOCATION_SIZE;
+pub const SIZE: usize = SPREAD_AT + QUOTE_SIZE;
 
 // Writes the value of an element; spaces where it is missing or left out.
 fn text_at(dst: &mut [u8], at: usize, n: usize, m: &[u8], facts: Facts, code: u8)
@@ -107,7 +112,7 @@ fn truth_at(dst: &mut [u8], at: usize, m: &[u8], facts: Facts, code: u8)
     field_at(dst, at, MARK_SIZE, b"F");
 }
 
-// Writes a price; spaces where it is missing or left out.
+// Writes a price or a spread; spaces where it is missing or left out.
 fn price_at(dst: &mut [u8], at: usize, n: usize, m: &[u8], facts: Facts, code: u8)
     requires { ⌜ at + n ≤ length (now dst) ⌝ }
     requires { ⌜ facts ≡ factsOf (now m) ⌝ }
@@ -157,7 +162,7 @@ fn write_truths(dst: &mut [u8], m: &[u8], facts: Facts)
     truth_at(dst, PACKAGE_AT, m, facts, PACKAGE_INDICATOR);
 }
 
-// A price, its notation and its currency.
+// A price or a spread, its notation and its currency.
 fn write_quote(
     dst: &mut [u8],
     at: usize,
@@ -239,4 +244,13 @@ pub fn write_terms(dst: &mut [u8], m: &[u8], cap: u64)
         PRICE_CURRENCY,
     );
     write_notional(dst, m, facts, cap);
+    write_quote(
+        dst,
+        SPREAD_AT,
+        m,
+        facts,
+        PACKAGE_SPREAD,
+        SPREAD_NOTATION,
+        SPREAD_CURRENCY,
+    );
 }

@@ -35,6 +35,13 @@ priceNotations = "1" ∷ "3" ∷ []
 unfoldable pub isPriceNotation : Bytes → Bool
 isPriceNotation v = oneOf priceNotations v
 
+-- code 27: 1, 3 or 4
+abbrev pub spreadNotations : List String
+spreadNotations = "1" ∷ "3" ∷ "4" ∷ []
+
+unfoldable pub isSpreadNotation : Bytes → Bool
+isSpreadNotation v = oneOf spreadNotations v
+
 -- code 25: CR, IR, FX, EQ or CO
 abbrev pub assetClasses : List String
 assetClasses = "CR" ∷ "IR" ∷ "FX" ∷ "EQ" ∷ "CO" ∷ []

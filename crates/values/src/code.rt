@@ -1,7 +1,7 @@
 // Values that are one of a few codes.
 ghost use mathlib.Core.Path.{_≡_};
 ghost use Rattle.octets.specs.Same.{sameBytes};
-ghost use Rattle.values.specs.Code.{isTrue, isFalse, isTruth, isCleared, isAllocation, isPriceNotation, isAssetClass};
+ghost use Rattle.values.specs.Code.{isTrue, isFalse, isTruth, isCleared, isAllocation, isPriceNotation, isSpreadNotation, isAssetClass};
 use octets::one_of;
 use octets::same;
 
@@ -61,6 +61,12 @@ pub fn is_price_notation(v: &[u8]) -> bool
     ensures { λ r. ⌜ r ≡ isPriceNotation (now (v .entry)) ⌝ }
 {
     one_of(v, b"13", 1, 2)
+}
+
+pub fn is_spread_notation(v: &[u8]) -> bool
+    ensures { λ r. ⌜ r ≡ isSpreadNotation (now (v .entry)) ⌝ }
+{
+    one_of(v, b"134", 1, 3)
 }
 
 pub fn is_asset_class(v: &[u8]) -> bool

@@ -10,6 +10,7 @@ pub use code::is_asset_class;
 pub use code::is_cleared;
 pub use code::is_code;
 pub use code::is_price_notation;
+pub use code::is_spread_notation;
 pub use code::is_true;
 pub use code::is_truth;
 pub use lei::is_lei;

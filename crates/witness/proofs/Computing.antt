@@ -6,7 +6,7 @@ use Rattle.octets.specs.Part.{splice}
 use Rattle.octets.specs.Same.{sameBytes, place, oneOf, lookUp}
 use Rattle.octets.specs.Search.{firstFrom, allFrom}
 use Rattle.octets.specs.Text.{text}
-use Rattle.values.specs.Code.{isTrue, isFalse, isTruth, isCleared, isAllocation, isPriceNotation, isAssetClass}
+use Rattle.values.specs.Code.{isTrue, isFalse, isTruth, isCleared, isAllocation, isPriceNotation, isSpreadNotation, isAssetClass}
 use Rattle.values.specs.Lei.{weight, number, grow, spell, isLei}
 use Rattle.values.specs.Run.{runOf}
 use Rattle.numbers.specs.Numbers.{pointIn, wholeOf, decimalsOf, isNumber, unsignedOf, isPrice}
@@ -15,7 +15,7 @@ use Rattle.message.specs.Layout.{u16At, entryRight, layoutRight}
 use Rattle.message.specs.Values.{entries as wholeEntries, entryFrom, endOf, valueAt, value, isThere}
 use Rattle.actions.specs.Actions.{actionOf}
 use Rattle.actions.specs.Matrix.{tick, pairAllowed}
-use Rattle.elements.specs.Conditions.{isPackage, valueIs, factsOf, isDue, kept}
+use Rattle.elements.specs.Conditions.{isPackage, valueIs, isQuoted, quoteOf, factsOf, isDue, kept}
 use Rattle.elements.specs.Forms.{hasForm}
 use Rattle.elements.specs.Messages.{known, howMany, mostEntries, hasLayout, takes, needs}
 use Rattle.elements.specs.Table.{elementOf}
@@ -25,7 +25,7 @@ use Rattle.notional.specs.Rounding.{bands, stepIn, step, nearest, rounded}
 use Rattle.price.specs.Price.{dropZeros, trimZeros, shownWhole, shownDecimals, shownUnsigned, isZero, showsMinus, shownSign, shownPrice}
 use Rattle.terms.specs.Terms.{shownTruth, priceText, plusText, termsOf}
 use Rattle.rules.specs.Findings.{lowest, firstBroken}
-use Rattle.rules.specs.Rules.{longer, longQuote, hasLongPrice, outOfOrder, rulesOf, rulesFor}
+use Rattle.rules.specs.Rules.{hasBothQuotes, longer, longQuote, hasLongPrice, outOfOrder, rulesOf, rulesFor}
 use Rattle.ledger.specs.Header.{rowsInUse, firstRow, nextIdentifier, capsIn, sizeOfRows, capacityIn, capFor, areCaps, capacityFor, headerRight, headerOf, newHeader}
 use Rattle.ledger.specs.Line.{line}
 use Rattle.ledger.specs.Rows.{rowAt, statusOf, identifierOf, storedTerms, storedTime, holdsUti, placeIn, isKnown, swapStatus, swapIdentifier, swapTime, newRow, withStatus, withIdentifier, withTerms, withRows, withNext, headerAfter}
@@ -44,11 +44,11 @@ unfolding field bytesOf fromLe toLe digits splice sameBytes place oneOf lookUp f
 bytes = tt
 
 forms : Unit {0}
-unfolding isTrue isFalse isTruth isCleared isAllocation isPriceNotation isAssetClass weight number grow spell isLei runOf pointIn wholeOf decimalsOf isNumber unsignedOf isPrice fitsPattern twoDigits leap daysIn gregorian namesDate isDate isTime before
+unfolding isTrue isFalse isTruth isCleared isAllocation isPriceNotation isSpreadNotation isAssetClass weight number grow spell isLei runOf pointIn wholeOf decimalsOf isNumber unsignedOf isPrice fitsPattern twoDigits leap daysIn gregorian namesDate isDate isTime before
 forms = tt
 
 reading : Unit {0}
-unfolding u16At entryRight layoutRight wholeEntries entryFrom endOf valueAt value isThere actionOf elementOf known howMany mostEntries hasLayout takes needs tick pairAllowed isPackage valueIs factsOf isDue kept hasForm
+unfolding u16At entryRight layoutRight wholeEntries entryFrom endOf valueAt value isThere actionOf elementOf known howMany mostEntries hasLayout takes needs tick pairAllowed isPackage valueIs isQuoted quoteOf factsOf isDue kept hasForm
 reading = tt
 
 masking : Unit {0}
@@ -56,7 +56,7 @@ unfolding digit spelled fraction amount over shown isCap bands stepIn step neare
 masking = tt
 
 judging : Unit {0}
-unfolding lowest firstBroken longer longQuote hasLongPrice outOfOrder rulesOf rulesFor
+unfolding lowest firstBroken hasBothQuotes longer longQuote hasLongPrice outOfOrder rulesOf rulesFor
 judging = tt
 
 storing : Unit {0}

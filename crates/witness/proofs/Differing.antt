@@ -10,7 +10,7 @@ use Rattle.octets.specs.Search.{all}
 use Rattle.octets.specs.Same.{sameBytes}
 use Rattle.octets.proofs.SameLaws.{same-apart}
 use Rattle.witness.specs.Histories.{left, leftLedger, right, rightLedger}
-use Rattle.witness.specs.Differences.{hiddenCodes, fullPlaces, hidden, exact, bufferSize, Differ}
+use Rattle.witness.specs.Differences.{hiddenCodes, fullPlaces, hidden, quote, exact, bufferSize, Differ}
 use Rattle.witness.proofs.AlikeTest.{at-place}
 use Rattle.witness.proofs.Computing.{computing}
 
@@ -25,6 +25,10 @@ elements-tested : all (λ i. all (λ k. not (sameBytes (hidden left i k) (hidden
 unfolding computing
 elements-tested = refl
 
+quotes-tested : all (λ i. not (sameBytes (quote left i) (quote right i))) (length fullPlaces) ≡ true
+unfolding computing
+quotes-tested = refl
+
 amounts-tested : all (λ i. not (eqb (exact left i) (exact right i))) (length fullPlaces) ≡ true
 unfolding computing
 amounts-tested = refl
@@ -37,6 +41,7 @@ pub histories-differ : Differ
 histories-differ =
     record {
       elements = λ i k h l. bytes-differ _ _ (at-place _ (length hiddenCodes) k l (at-place _ (length fullPlaces) i h elements-tested));
+      quotes = λ i h. bytes-differ _ _ (at-place _ (length fullPlaces) i h quotes-tested);
       amounts = λ i h. numbers-apart _ _ (at-place _ (length fullPlaces) i h amounts-tested);
       buffers = λ i h. numbers-apart _ _ (at-place _ (length left) i h buffers-tested);
       ledgers = numbers-apart (length leftLedger) (length rightLedger) refl;

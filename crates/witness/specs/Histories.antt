@@ -27,7 +27,7 @@ northRates =
       settlement = "2033-03-08";
       allocation = "UNAL";
       packageName = "Alpha7";
-      price = "-0101.250";
+      quote = "-0101.250";
       counterparty1 = "529900NORTHBANK00170";
       counterparty2 = "213800NORTHFUND00170";
     }
@@ -39,7 +39,7 @@ northGrain =
       settlement = "2027-04-01";
       allocation = "PREA";
       packageName = "Alpha8";
-      price = "3";
+      quote = "3";
       counterparty1 = "549300NORTHGRAIN0150";
       counterparty2 = "529900NORTHBANK00170";
     }
@@ -71,7 +71,7 @@ southRates =
       settlement = "2034-01-05";
       allocation = "POST";
       packageName = "zeta";
-      price = "-101.25";
+      quote = "-101.25";
       counterparty1 = "894500SOUTHFUND00146";
       counterparty2 = "969500SOUTHBANK00122";
     }
@@ -83,7 +83,7 @@ southGrain =
       settlement = "2027-05-03";
       allocation = "UNAL";
       packageName = "eta";
-      price = "-17.5";
+      quote = "-17.5";
       counterparty1 = "969500SOUTHBANK00122";
       counterparty2 = "724500SOUTHGRAIN0154";
     }

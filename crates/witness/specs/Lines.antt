@@ -7,19 +7,19 @@ use Rattle.ledger.specs.Line.{newline}
 
 -- the masked terms of the full messages
 abbrev pub newTerms : String
-newTerms = "2026-03-02T14:29:58Z2026-03-042031-03-04Y FTT-101.25             1USDIR0000000100000000 USDUS"
+newTerms = "2026-03-02T14:29:58Z2026-03-042031-03-04Y FTT-101.25             1USDIR0000000100000000 USDUS                        "
 
 abbrev pub extendedTerms : String
-extendedTerms = "2026-03-02T14:29:58Z2026-03-042033-03-04Y FTT-101.25             1USDIR0000000250000000+USDUS"
+extendedTerms = "2026-03-02T14:29:58Z2026-03-042033-03-04Y FTT-101.25             1USDIR0000000250000000+USDUS                        "
 
 abbrev pub unclearedTerms : String
-unclearedTerms = "2026-03-03T10:14:30Z2026-04-012027-04-01NTFFF                        CO0000000000001000 EUR  "
+unclearedTerms = "2026-03-03T10:14:30Z2026-04-012027-04-01NTFFF                        CO0000000000001000 EUR                          "
 
 abbrev pub correctedTerms : String
-correctedTerms = "2026-03-03T10:14:03Z2026-04-012027-04-01NTFFF                        CO0000000000010000 EUR  "
+correctedTerms = "2026-03-03T10:14:03Z2026-04-012027-04-01NTFFF                        CO0000000000010000 EUR                          "
 
 abbrev pub revivedTerms : String
-revivedTerms = "2026-03-02T14:29:58Z2026-03-042031-03-04Y FTT-101.25             1USDIR0000000001000000 USDUS"
+revivedTerms = "2026-03-02T14:29:58Z2026-03-042031-03-04Y FTT                        IR0000000001000000 USDUS-101.25             1USD"
 
 -- identifier, previous one, action, event and event time; terms; newline
 unfoldable pub lineText : String → String → Bytes

@@ -5,7 +5,7 @@ use Prim.Native.String.{String}
 use mathlib.Core.List.{List, [], _∷_, _++_}
 use Rattle.octets.specs.Bytes.{Bytes}
 use Rattle.actions.specs.Actions.{actionType}
-use Rattle.elements.specs.Codes.{uti, eventType, eventTimestamp, reportingTimestamp, executionTimestamp, effectiveDate, expirationDate, settlementDate, cleared, nonStandardizedTerm, blockElection, largeNotionalElection, packageIndicator, packageIdentifier, packagePrice, priceNotation, priceCurrency, notionalAmount, notionalCurrency, settlementLocation, assetClass}
+use Rattle.elements.specs.Codes.{uti, eventType, eventTimestamp, reportingTimestamp, executionTimestamp, effectiveDate, expirationDate, settlementDate, cleared, nonStandardizedTerm, blockElection, largeNotionalElection, packageIndicator, packageIdentifier, packagePrice, priceNotation, priceCurrency, notionalAmount, notionalCurrency, settlementLocation, assetClass, packageSpread, spreadNotation, spreadCurrency}
 use Rattle.witness.specs.Encoding.{Element, encoded}
 
 -- elements that only this crate speaks of by name
@@ -18,13 +18,13 @@ counterparty1 = 23
 abbrev pub counterparty2 : ℕ
 counterparty2 = 24
 
--- what the messages of a swap tell and the tape does not; the tape shows the price without the zeros that say nothing
+-- what the messages of a swap tell and the tape does not; the tape shows price and spread without the zeros that say nothing
 pub record Hidden : Type 0 where
   pub uti : String
   pub settlement : String
   pub allocation : String
   pub packageName : String
-  pub price : String
+  pub quote : String
   pub counterparty1 : String
   pub counterparty2 : String
 
@@ -36,10 +36,16 @@ withEvent action event time = (actionType, action) ∷ (eventType, event) ∷ (e
 abbrev pub withoutEvent : String → String → List Element
 withoutEvent action time = (actionType, action) ∷ (eventTimestamp, time) ∷ []
 
--- ---- full messages of a swap of a package with a price in dollars
+-- ---- full messages of a swap of a package that is quoted in dollars, by a price or by a spread
 
-unfoldable pub packageSwap : List Element → String → Hidden → String → String → Bytes
-packageSwap shown expiration h reported amount =
+abbrev pub byPrice : Hidden → List Element
+byPrice h = (packagePrice, h .quote) ∷ (priceNotation, "1") ∷ (priceCurrency, "USD") ∷ []
+
+abbrev pub bySpread : Hidden → List Element
+bySpread h = (packageSpread, h .quote) ∷ (spreadNotation, "1") ∷ (spreadCurrency, "USD") ∷ []
+
+unfoldable pub packageSwap : List Element → String → List Element → List Element → Hidden → String → String → Bytes
+packageSwap shown expiration price spread h reported amount =
     encoded
     ((uti, h .uti)
     ∷ (shown
@@ -54,30 +60,28 @@ packageSwap shown expiration h reported amount =
     ∷ (allocation, h .allocation)
     ∷ (packageIndicator, "True")
     ∷ (packageIdentifier, h .packageName)
-    ∷ (packagePrice, h .price)
-    ∷ (priceNotation, "1")
-    ∷ (priceCurrency, "USD")
-    ∷ (notionalAmount, amount)
+    ∷ (price
+    ++ ((notionalAmount, amount)
     ∷ (notionalCurrency, "USD")
     ∷ (settlementLocation, "US")
     ∷ (counterparty1, h .counterparty1)
     ∷ (counterparty2, h .counterparty2)
     ∷ (assetClass, "IR")
-    ∷ [])))
+    ∷ spread)))))
 
 -- it is new
 abbrev pub newPackageSwap : Hidden → String → String → Bytes
-newPackageSwap = packageSwap (withEvent "NEWT" "TRAD" "2026-03-02T14:30:00Z") "2031-03-04"
+newPackageSwap h = packageSwap (withEvent "NEWT" "TRAD" "2026-03-02T14:30:00Z") "2031-03-04" (byPrice h) [] h
 
 -- it is modified: it expires two years later
 abbrev pub extendedPackageSwap : Hidden → String → String → Bytes
-extendedPackageSwap = packageSwap (withEvent "MODI" "TRAD" "2026-03-03T09:00:00Z") "2033-03-04"
+extendedPackageSwap h = packageSwap (withEvent "MODI" "TRAD" "2026-03-03T09:00:00Z") "2033-03-04" (byPrice h) [] h
 
--- it is revived, with its first expiration
+-- it is revived, with its first expiration and quoted by a spread
 abbrev pub revivedPackageSwap : Hidden → String → String → Bytes
-revivedPackageSwap = packageSwap (withoutEvent "REVI" "2026-03-05T11:00:00Z") "2031-03-04"
+revivedPackageSwap h = packageSwap (withoutEvent "REVI" "2026-03-05T11:00:00Z") "2031-03-04" [] (bySpread h) h
 
--- ---- full messages of a swap that is not cleared and of no package: package name and price are sent and left out
+-- ---- full messages of a swap that is not cleared and of no package: package name, price and spread are sent and left out
 
 unfoldable pub unclearedSwap : List Element → String → Hidden → String → String → Bytes
 unclearedSwap shown executed h reported amount =
@@ -96,12 +100,13 @@ unclearedSwap shown executed h reported amount =
     ∷ (allocation, h .allocation)
     ∷ (packageIndicator, "false")
     ∷ (packageIdentifier, h .packageName)
-    ∷ (packagePrice, h .price)
+    ∷ (packagePrice, h .quote)
     ∷ (notionalAmount, amount)
     ∷ (notionalCurrency, "EUR")
     ∷ (counterparty1, h .counterparty1)
     ∷ (counterparty2, h .counterparty2)
     ∷ (assetClass, "CO")
+    ∷ (packageSpread, h .quote)
     ∷ [])))
 
 -- it is new

@@ -1,13 +1,14 @@
 //! Section 3, elements: the table of codes; and the seven actions.
 
 use crate::forms::{
-    is_allocation, is_asset_class, is_capitals, is_cleared, is_date, is_lei, is_notation,
-    is_notional, is_package_identifier, is_price, is_time, is_true, is_truth, is_uti,
+    is_allocation, is_asset_class, is_capitals, is_cleared, is_date, is_lei, is_notional,
+    is_package_identifier, is_price, is_price_notation, is_spread_notation, is_time, is_true,
+    is_truth, is_uti,
 };
 use crate::message::Values;
 
 /// Codes run from 1 to this.
-pub const LAST_CODE: u16 = 25;
+pub const LAST_CODE: u16 = 28;
 
 pub const UTI: u16 = 1;
 pub const ACTION_TYPE: u16 = 2;
@@ -34,6 +35,9 @@ pub const SETTLEMENT_LOCATION: u16 = 22;
 pub const COUNTERPARTY_1: u16 = 23;
 pub const COUNTERPARTY_2: u16 = 24;
 pub const ASSET_CLASS: u16 = 25;
+pub const PACKAGE_SPREAD: u16 = 26;
+pub const SPREAD_NOTATION: u16 = 27;
+pub const SPREAD_CURRENCY: u16 = 28;
 
 /// The last code that a short message may have (3.1).
 pub const LAST_SHORT: u16 = 5;
@@ -56,7 +60,10 @@ pub fn needed(code: u16) -> Needed {
         | PACKAGE_IDENTIFIER
         | PACKAGE_PRICE
         | PRICE_NOTATION
-        | PRICE_CURRENCY => Needed::If,
+        | PRICE_CURRENCY
+        | PACKAGE_SPREAD
+        | SPREAD_NOTATION
+        | SPREAD_CURRENCY => Needed::If,
         SETTLEMENT_LOCATION => Needed::Optional,
         _ => Needed::Full,
     }
@@ -67,24 +74,36 @@ pub fn is_not_cleared(values: &Values) -> bool {
     values.get(CLEARED) == Some(b"N")
 }
 
-/// The condition of codes 16, 17 and 18: 15 is true.
-pub fn is_package(values: &Values) -> bool {
+/// 15 is true.
+fn is_package(values: &Values) -> bool {
     values.get(PACKAGE_INDICATOR).is_some_and(is_true)
 }
 
-/// The condition of code 19: 15 is true and 18 is 1.
-pub fn has_price_currency(values: &Values) -> bool {
-    is_package(values) && values.get(PRICE_NOTATION) == Some(b"1")
+/// The price (17) or the spread (26) of a package; None where it is missing or
+/// left out (3.4).
+pub fn quoted<'a>(code: u16, values: &Values<'a>) -> Option<&'a [u8]> {
+    values.get(code).filter(|_| is_package(values))
 }
 
-/// A code has a condition, and it holds (3.3).
+/// A code has a condition, and it holds (3.3). A package is quoted by price or
+/// spread (3.7); where it has neither, the price is due.
 pub fn is_due(code: u16, values: &Values) -> bool {
     match code {
         NON_STANDARDIZED_TERM => is_not_cleared(values),
-        PACKAGE_IDENTIFIER | PACKAGE_PRICE | PRICE_NOTATION => is_package(values),
-        PRICE_CURRENCY => has_price_currency(values),
+        PACKAGE_IDENTIFIER => is_package(values),
+        PACKAGE_PRICE => is_package(values) && values.get(PACKAGE_SPREAD).is_none(),
+        PRICE_NOTATION => quoted(PACKAGE_PRICE, values).is_some(),
+        PRICE_CURRENCY => is_monetary(PACKAGE_PRICE, PRICE_NOTATION, values),
+        SPREAD_NOTATION => quoted(PACKAGE_SPREAD, values).is_some(),
+        SPREAD_CURRENCY => is_monetary(PACKAGE_SPREAD, SPREAD_NOTATION, values),
         _ => false,
     }
+}
+
+/// The condition of codes 19 and 28: price or spread of a package is there, and
+/// its notation is 1.
+fn is_monetary(code: u16, notation: u16, values: &Values) -> bool {
+    quoted(code, values).is_some() && values.get(notation) == Some(b"1")
 }
 
 /// The column form. The action's form is rule 6 and is asked there.
@@ -101,9 +120,10 @@ pub fn has_form(code: u16, v: &[u8]) -> bool {
         }
         ALLOCATION => is_allocation(v),
         PACKAGE_IDENTIFIER => is_package_identifier(v),
-        PACKAGE_PRICE => is_price(v),
-        PRICE_NOTATION => is_notation(v),
-        PRICE_CURRENCY | NOTIONAL_CURRENCY => is_capitals(v, 3),
+        PACKAGE_PRICE | PACKAGE_SPREAD => is_price(v),
+        PRICE_NOTATION => is_price_notation(v),
+        SPREAD_NOTATION => is_spread_notation(v),
+        PRICE_CURRENCY | NOTIONAL_CURRENCY | SPREAD_CURRENCY => is_capitals(v, 3),
         NOTIONAL_AMOUNT => is_notional(v),
         SETTLEMENT_LOCATION => is_capitals(v, 2),
         COUNTERPARTY_1 | COUNTERPARTY_2 => is_lei(v),

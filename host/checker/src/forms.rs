@@ -118,8 +118,13 @@ pub fn is_package_identifier(v: &[u8]) -> bool {
 }
 
 /// Code 18: 1 or 3.
-pub fn is_notation(v: &[u8]) -> bool {
+pub fn is_price_notation(v: &[u8]) -> bool {
     matches!(v, b"1" | b"3")
+}
+
+/// Code 27: 1, 3 or 4.
+pub fn is_spread_notation(v: &[u8]) -> bool {
+    matches!(v, b"1" | b"3" | b"4")
 }
 
 /// Code 25: CR, IR, FX, EQ or CO.
@@ -139,7 +144,7 @@ pub fn asset_class_place(v: &[u8]) -> Option<usize> {
     }
 }
 
-/// As many capitals as asked: codes 3, 19, 21 and 22.
+/// As many capitals as asked: codes 3, 19, 21, 22 and 28.
 pub fn is_capitals(v: &[u8], count: usize) -> bool {
     v.len() == count && v.iter().all(u8::is_ascii_uppercase)
 }
@@ -149,13 +154,13 @@ pub fn is_notional(v: &[u8]) -> bool {
     is_num(v, 25, 5)
 }
 
-/// Code 17 as rule 9 holds it: perhaps a minus, then a number of at most 18
-/// digits, 13 after the point. What notation 3 asks more is rule 12.
+/// Codes 17 and 26 as rule 9 holds them: perhaps a minus, then a number of at
+/// most 18 digits, 13 after the point. What notations 3 and 4 ask more is rule 12.
 pub fn is_price(v: &[u8]) -> bool {
     is_num(without_minus(v), 18, 13)
 }
 
-/// A price without the minus it may open with.
+/// A price or spread without the minus it may open with.
 pub fn without_minus(v: &[u8]) -> &[u8] {
     v.strip_prefix(b"-").unwrap_or(v)
 }

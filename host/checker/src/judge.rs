@@ -12,9 +12,10 @@ use crate::message::Values;
 use crate::rules::{
     refusal_at, rule_10_not_a_pair, rule_11_conditional_missing, rule_12_price_too_long,
     rule_13_dates_disordered, rule_14_row_wrong, rule_15_not_admitted, rule_16_other_time,
-    rule_17_ledger_full, rule_18_identifiers_spent, rule_1_ledger_short, rule_2_cap_wrong,
-    rule_3_ledger_wrong, rule_4_tape_short, rule_5_layout_wrong, rule_6_action_wrong,
-    rule_7_element_missing, rule_8_element_not_taken, rule_9_form_broken, Answer, Judged,
+    rule_17_ledger_full, rule_18_identifiers_spent, rule_19_price_and_spread, rule_1_ledger_short,
+    rule_2_cap_wrong, rule_3_ledger_wrong, rule_4_tape_short, rule_5_layout_wrong,
+    rule_6_action_wrong, rule_7_element_missing, rule_8_element_not_taken, rule_9_form_broken,
+    Answer, Judged,
 };
 
 /// Opens a ledger over a lent buffer. The caps are in the order CR, IR, FX,
@@ -69,7 +70,7 @@ struct Accepted<'a> {
     new_status: u8,
 }
 
-/// Rules 3 to 18, in checking order. Nothing is written.
+/// Rules 3 to 19, in checking order. Nothing is written.
 fn judge<'a>(ledger: &[u8], tape: &[u8], message: &'a [u8]) -> Judged<Accepted<'a>> {
     let header = rule_3_ledger_wrong(ledger)?;
     rule_4_tape_short(tape)?;
@@ -80,6 +81,7 @@ fn judge<'a>(ledger: &[u8], tape: &[u8], message: &'a [u8]) -> Judged<Accepted<'
     rule_9_form_broken(&values)?;
     rule_10_not_a_pair(&values)?;
     rule_11_conditional_missing(&values)?;
+    rule_19_price_and_spread(&values)?;
     rule_12_price_too_long(&values)?;
     rule_13_dates_disordered(&values, action)?;
     let found = find(ledger, &header, values.present(UTI));

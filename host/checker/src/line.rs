@@ -2,10 +2,10 @@
 
 use crate::amounts::masked_amount;
 use crate::elements::{
-    has_price_currency, is_not_cleared, is_package, ASSET_CLASS, BLOCK_ELECTION, CLEARED,
-    EFFECTIVE_DATE, EXECUTION_TIMESTAMP, EXPIRATION_DATE, LARGE_NOTIONAL_ELECTION,
-    NON_STANDARDIZED_TERM, NOTIONAL_AMOUNT, NOTIONAL_CURRENCY, PACKAGE_INDICATOR, PACKAGE_PRICE,
-    PRICE_CURRENCY, PRICE_NOTATION, SETTLEMENT_LOCATION,
+    is_due, is_not_cleared, quoted, ASSET_CLASS, BLOCK_ELECTION, CLEARED, EFFECTIVE_DATE,
+    EXECUTION_TIMESTAMP, EXPIRATION_DATE, LARGE_NOTIONAL_ELECTION, NON_STANDARDIZED_TERM,
+    NOTIONAL_AMOUNT, NOTIONAL_CURRENCY, PACKAGE_INDICATOR, PACKAGE_PRICE, PACKAGE_SPREAD,
+    PRICE_CURRENCY, PRICE_NOTATION, SETTLEMENT_LOCATION, SPREAD_CURRENCY, SPREAD_NOTATION,
 };
 use crate::forms::{asset_class_place, is_true};
 use crate::message::Values;
@@ -13,9 +13,8 @@ use crate::price::shown;
 use crate::sizes::{self, line, TERMS};
 
 /// What a full message's elements and the caps put into a line from the
-/// execution time up to the newline. The message has passed rules 5 to 12.
-/// Offsets are the line's.
-/// A field without a value has spaces (7.3).
+/// execution time up to the newline. The message has passed rules 5 to 12 and
+/// 19. Offsets are the line's. A field without a value has spaces (7.3).
 pub fn masked_terms(values: &Values, caps: &[u64; 5]) -> [u8; TERMS] {
     let mut terms = [b' '; TERMS];
     let mut put = |offset: usize, part: &[u8]| {
@@ -33,13 +32,21 @@ pub fn masked_terms(values: &Values, caps: &[u64; 5]) -> [u8; TERMS] {
     put(line::BLOCK, truth(values.present(BLOCK_ELECTION)));
     put(line::LARGE, truth(values.present(LARGE_NOTIONAL_ELECTION)));
     put(line::PACKAGE, truth(values.present(PACKAGE_INDICATOR)));
-    if is_package(values) {
-        let (field, _) = shown(values.present(PACKAGE_PRICE));
-        put(line::PRICE, &field);
-        put(line::NOTATION, values.present(PRICE_NOTATION));
+    for (code, at) in [(PACKAGE_PRICE, line::PRICE), (PACKAGE_SPREAD, line::SPREAD)] {
+        if let Some(v) = quoted(code, values) {
+            let (field, _) = shown(v);
+            put(at, &field);
+        }
     }
-    if has_price_currency(values) {
-        put(line::PRICE_CURRENCY, values.present(PRICE_CURRENCY));
+    for (code, at) in [
+        (PRICE_NOTATION, line::PRICE_NOTATION),
+        (PRICE_CURRENCY, line::PRICE_CURRENCY),
+        (SPREAD_NOTATION, line::SPREAD_NOTATION),
+        (SPREAD_CURRENCY, line::SPREAD_CURRENCY),
+    ] {
+        if is_due(code, values) {
+            put(at, values.present(code));
+        }
     }
     let asset_class = values.present(ASSET_CLASS);
     put(line::CLASS, asset_class);

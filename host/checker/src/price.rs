@@ -1,13 +1,21 @@
-//! The package price, code 17: rule 12, and how the tape line shows it.
+//! The package price, code 17, and the package spread, code 26, which is written
+//! as the price is: rule 12, and how the tape line shows them.
 
 use crate::forms::{is_price, split_at_point, without_minus};
 use crate::sizes::PRICE;
 
-/// Rule 12: a price with notation 3 has at most 11 digits, 10 after the point.
-pub fn price_too_long(v: &[u8]) -> bool {
+/// Rule 12: with notation 3 there are at most 11 digits, 10 after the point;
+/// with notation 4 at most 5, none after the point.
+pub fn price_too_long(v: &[u8], notation: &[u8]) -> bool {
+    let (in_all, after_point) = match notation {
+        b"3" => (11, 10),
+        b"4" => (5, 0),
+        // the limits of the form, which are rule 9's
+        _ => return false,
+    };
     let (before, after) = split_at_point(without_minus(v));
     let after = after.map_or(0, <[u8]>::len);
-    before.len() + after > 11 || after > 10
+    before.len() + after > in_all || after > after_point
 }
 
 /// The bytes of the line's field and the length without padding. None

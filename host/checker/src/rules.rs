@@ -3,9 +3,9 @@
 
 use crate::amounts::is_cap;
 use crate::elements::{
-    has_form, is_due, is_package, needed, Action, Needed, ACTION_TYPE, EFFECTIVE_DATE, EVENT_TYPE,
-    EXECUTION_TIMESTAMP, EXPIRATION_DATE, LAST_CODE, LAST_SHORT, PACKAGE_PRICE, PRICE_NOTATION,
-    REPORTING_TIMESTAMP, SETTLEMENT_DATE,
+    has_form, is_due, needed, quoted, Action, Needed, ACTION_TYPE, EFFECTIVE_DATE, EVENT_TYPE,
+    EXECUTION_TIMESTAMP, EXPIRATION_DATE, LAST_CODE, LAST_SHORT, PACKAGE_PRICE, PACKAGE_SPREAD,
+    PRICE_NOTATION, REPORTING_TIMESTAMP, SETTLEMENT_DATE, SPREAD_NOTATION,
 };
 use crate::ledger::{
     is_long_enough, read_header, Header, Row, CLOSED, ERRORED, IDENTIFIER_LIMIT, LIVE, PORTED,
@@ -134,12 +134,19 @@ pub fn rule_11_conditional_missing(values: &Values) -> Judged<()> {
     })
 }
 
-/// 12. The price of a package with notation 3 has more than 11 digits, or more
-///     than 10 after the point.
+/// 19. A package has both price and spread. It is judged between 11 and 12.
+pub fn rule_19_price_and_spread(values: &Values) -> Judged<()> {
+    let there = |code| quoted(code, values).is_some();
+    refuse_if(there(PACKAGE_PRICE) && there(PACKAGE_SPREAD), 19)
+}
+
+/// 12. The price or the spread of a package is longer than its notation allows.
 pub fn rule_12_price_too_long(values: &Values) -> Judged<()> {
-    let fault = is_package(values)
-        && values.get(PRICE_NOTATION) == Some(b"3")
-        && price_too_long(values.present(PACKAGE_PRICE));
+    let too_long = |code, notation| {
+        quoted(code, values).is_some_and(|v| price_too_long(v, values.present(notation)))
+    };
+    let fault =
+        too_long(PACKAGE_PRICE, PRICE_NOTATION) || too_long(PACKAGE_SPREAD, SPREAD_NOTATION);
     refuse_if(fault, 12)
 }
 

@@ -6,7 +6,7 @@ pub const LARGEST_CAPACITY: usize = 100_000;
 /// Clause 2.6.
 pub const LONGEST_MESSAGE: usize = 2_048;
 /// Clause 11.1.
-pub const DAY_ROWS: usize = 400;
+pub const DAY_ROWS: usize = 340;
 
 pub const U16: usize = 2;
 pub const U32: usize = 4;
@@ -28,7 +28,7 @@ pub const LOCATION: usize = 2;
 pub const ASSET_CLASS: usize = 2;
 /// Digits of an identifier in a line.
 pub const IDENTIFIER: usize = 12;
-/// The price in a line.
+/// The price in a line; the spread has as much (7.4).
 pub const PRICE: usize = 20;
 /// Digits of the notional in a line.
 pub const NOTIONAL: usize = 16;
@@ -53,14 +53,17 @@ pub mod line {
     pub const LARGE: usize = BLOCK + 1;
     pub const PACKAGE: usize = LARGE + 1;
     pub const PRICE: usize = PACKAGE + 1;
-    pub const NOTATION: usize = PRICE + super::PRICE;
-    pub const PRICE_CURRENCY: usize = NOTATION + 1;
+    pub const PRICE_NOTATION: usize = PRICE + super::PRICE;
+    pub const PRICE_CURRENCY: usize = PRICE_NOTATION + 1;
     pub const CLASS: usize = PRICE_CURRENCY + CURRENCY;
     pub const NOTIONAL: usize = CLASS + ASSET_CLASS;
     pub const PLUS: usize = NOTIONAL + super::NOTIONAL;
     pub const NOTIONAL_CURRENCY: usize = PLUS + 1;
     pub const LOCATION: usize = NOTIONAL_CURRENCY + CURRENCY;
-    pub const NEWLINE: usize = LOCATION + super::LOCATION;
+    pub const SPREAD: usize = LOCATION + super::LOCATION;
+    pub const SPREAD_NOTATION: usize = SPREAD + super::PRICE;
+    pub const SPREAD_CURRENCY: usize = SPREAD_NOTATION + 1;
+    pub const NEWLINE: usize = SPREAD_CURRENCY + CURRENCY;
     pub const SIZE: usize = NEWLINE + 1;
 
     /// The masked terms, from the execution time up to the newline.
@@ -126,20 +129,23 @@ mod tests {
             (line::LARGE, 95),
             (line::PACKAGE, 96),
             (line::PRICE, 97),
-            (line::NOTATION, 117),
+            (line::PRICE_NOTATION, 117),
             (line::PRICE_CURRENCY, 118),
             (line::CLASS, 121),
             (line::NOTIONAL, 123),
             (line::PLUS, 139),
             (line::NOTIONAL_CURRENCY, 140),
             (line::LOCATION, 143),
-            (line::NEWLINE, 145),
-            (line::SIZE, 146),
+            (line::SPREAD, 145),
+            (line::SPREAD_NOTATION, 165),
+            (line::SPREAD_CURRENCY, 166),
+            (line::NEWLINE, 169),
+            (line::SIZE, 170),
         ];
         for (sum, offset) in offsets {
             assert_eq!(sum, offset);
         }
-        assert_eq!((line::TERMS, line::TERMS_END, TERMS), (52, 145, 93));
+        assert_eq!((line::TERMS, line::TERMS_END, TERMS), (52, 169, 117));
     }
 
     #[test]
@@ -159,20 +165,20 @@ mod tests {
             (row::UTI, 2),
             (row::IDENTIFIER, 54),
             (row::TERMS, 62),
-            (row::TAIL, 155),
-            (row::SIZE, 160),
+            (row::TAIL, 179),
+            (row::SIZE, 184),
         ];
         for (sum, offset) in header.into_iter().chain(row) {
             assert_eq!(sum, offset);
         }
-        assert_eq!(SHORTEST_LEDGER, 224);
-        assert_eq!(ledger_size(400), 64_064);
+        assert_eq!(SHORTEST_LEDGER, 248);
+        assert_eq!(ledger_size(340), 62_624);
     }
 
     #[test]
     fn limits() {
-        assert_eq!((COUNT, ENTRY, LAST_CODE), (2, 4, 25));
+        assert_eq!((COUNT, ENTRY, LAST_CODE), (2, 4, 28));
         assert_eq!((LONGEST_MESSAGE, LARGEST_CAPACITY), (2_048, 100_000));
-        assert_eq!((DAY_ROWS, CAPS, UTI), (400, 5, 52));
+        assert_eq!((DAY_ROWS, CAPS, UTI), (340, 5, 52));
     }
 }

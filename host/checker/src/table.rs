@@ -9,7 +9,8 @@ use crate::amounts::{is_cap, masked};
 use crate::elements::{
     has_form, Action, ACTION_TYPE, ALLOCATION, ASSET_CLASS, CLEARED, COUNTERPARTY_1,
     EFFECTIVE_DATE, EVENT_TIMESTAMP, EVENT_TYPE, NOTIONAL_AMOUNT, NOTIONAL_CURRENCY,
-    PACKAGE_IDENTIFIER, PACKAGE_INDICATOR, PACKAGE_PRICE, PRICE_NOTATION, SETTLEMENT_LOCATION, UTI,
+    PACKAGE_IDENTIFIER, PACKAGE_INDICATOR, PACKAGE_PRICE, PRICE_NOTATION, SETTLEMENT_LOCATION,
+    SPREAD_NOTATION, UTI,
 };
 use crate::matrix::is_pair;
 use crate::message::{layout_right, value};
@@ -18,7 +19,7 @@ use crate::rules::status_after;
 use crate::sizes::NOTIONAL;
 
 /// The words that ask for the form of a value, each with a code of that form.
-const FORMS: [(&str, u16); 16] = [
+const FORMS: [(&str, u16); 17] = [
     ("uti", UTI),
     ("action", ACTION_TYPE),
     ("event", EVENT_TYPE),
@@ -30,6 +31,7 @@ const FORMS: [(&str, u16); 16] = [
     ("package", PACKAGE_IDENTIFIER),
     ("price", PACKAGE_PRICE),
     ("notation", PRICE_NOTATION),
+    ("spread-notation", SPREAD_NOTATION),
     ("currency", NOTIONAL_CURRENCY),
     ("notional", NOTIONAL_AMOUNT),
     ("location", SETTLEMENT_LOCATION),
@@ -102,7 +104,7 @@ fn masked_notional(rest: &str) -> Option<String> {
     Some(format!("{shown:0NOTIONAL$}{}", if plus { "+" } else { "" }))
 }
 
-/// A price as a line shows it, without padding.
+/// A price or spread as a line shows it, without padding.
 fn price(rest: &str) -> Option<String> {
     let (field, length) = shown_price(rest.as_bytes())?;
     String::from_utf8(field[..length].to_vec()).ok()

@@ -52,6 +52,9 @@ fn some_messages() -> Vec<Elements> {
         newt(),
         with_package(newt(), "-12.50", "1"),
         with_package(modi(), "0.0250", "3"),
+        with_spread(newt(), "-12.50", "1"),
+        with_spread(modi(), "25", "4"),
+        with_spread(with_package(modi(), "0.0250", "3"), "0.0250", "3"),
         modi(),
         full("CORR", None),
         full("REVI", None),
@@ -68,7 +71,8 @@ fn leaves_take_any_bytes() {
         let v = numbers.bytes(60);
         let cap = numbers.next() >> numbers.below(64);
         let _ = (is_date(&v), is_time(&v), is_lei(&v), is_uti(&v));
-        let _ = (price_too_long(&v), is_cap(cap), is_pair(&v, Some(&v)));
+        let _ = (price_too_long(&v, b"4"), price_too_long(&v, &v));
+        let _ = (is_cap(cap), is_pair(&v, Some(&v)));
         assert_eq!(is_notional(&v), masked(&v, cap).is_some());
         assert_eq!(is_price(&v), shown_price(&v).is_some());
         let code = numbers.next() as u16;
@@ -91,7 +95,7 @@ fn messages_of_any_bytes() {
 #[test]
 fn changed_messages_and_ledgers() {
     let mut numbers = Numbers(3);
-    let mut verdicts = [0; 19];
+    let mut verdicts = [0; 20];
     for round in 0..60_000 {
         let mut book = Book::new(1 + numbers.below(3));
         book.accept(&newt());
@@ -149,7 +153,7 @@ fn changed_messages_and_ledgers() {
         let asked = status(&book.ledger, UTI.as_bytes());
         assert!(matches!(asked.verdict, 0 | 3 | 14));
     }
-    for verdict in [0, 3, 4, 5, 6, 7, 8, 9, 10, 11, 14, 15, 17] {
+    for verdict in [0, 3, 4, 5, 6, 7, 8, 9, 10, 11, 14, 15, 17, 19] {
         assert!(verdicts[verdict] > 0, "{verdict}: {verdicts:?}");
     }
 }

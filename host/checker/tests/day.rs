@@ -54,6 +54,7 @@ fn lengths_0_and_1() {
 
 /// Messages of every outcome that the last line counts, and their lines.
 fn small_day() -> Vec<(Vec<u8>, &'static str)> {
+    let both = laid_out(&with_spread(with_package(newt(), "1", "3"), "1", "3"));
     vec![
         (vec![0, 0], "1 6 2 0"),
         (laid_out(&newt()), "2 0 0 1"),
@@ -64,6 +65,8 @@ fn small_day() -> Vec<(Vec<u8>, &'static str)> {
         (laid_out(&without(modi(), 6)), "7 7 6 0"),
         (laid_out(&term()), "8 15 0 0"),
         (newt_of(1), "9 0 0 3"),
+        (laid_out(&with_spread(newt(), "1.5", "4")), "10 12 0 0"),
+        (both, "11 19 0 0"),
     ]
 }
 
@@ -75,7 +78,7 @@ fn a_day_cut_at_every_byte() {
         .flat_map(|(message, _)| framed(message))
         .collect();
     // after so many messages, so many lines are on the tape
-    let published = [0, 0, 1, 1, 2, 2, 2, 2, 2, 3];
+    let published = [0, 0, 1, 1, 2, 2, 2, 2, 2, 3, 3, 3];
     let (mut judged, mut end) = (0, 0);
     for cut in 0..=bytes.len() {
         if judged < day.len() && cut == end + 2 + day[judged].0.len() {
@@ -88,7 +91,7 @@ fn a_day_cut_at_every_byte() {
         due.push(&last);
         assert_eq!(text(&bytes[..cut]), lines(&due), "cut at {cut}");
     }
-    assert_eq!((judged, end), (9, bytes.len()));
+    assert_eq!((judged, end), (11, bytes.len()));
 }
 
 #[test]
@@ -125,6 +128,7 @@ fn a_swap_too_many_finds_no_row() {
     day.extend(framed(&newt_of(more)));
     due += &format!("{more} 17 0 0\n");
     assert_eq!(text(&day), format!("{due}end {more} {DAY_ROWS}\n"));
+    assert!(text(&day).ends_with("340 0 0 340\n341 17 0 0\nend 341 340\n"));
     // A swap that has a row goes on.
     let known = format!("5493001KJTIIGC8Y1R12N{DAY_ROWS:06}");
     day.extend(framed(&laid_out(&with(modi(), 1, &known))));

@@ -244,7 +244,7 @@ fn notation_3_is_shorter() {
         "0.0123456789",
         "-1.0123456789",
     ] {
-        assert!(!price_too_long(v.as_bytes()), "{v}");
+        assert!(!price_too_long(v.as_bytes(), b"3"), "{v}");
     }
     // 12 digits; 11 after the point; leading and trailing zeros count
     for v in [
@@ -254,7 +254,22 @@ fn notation_3_is_shorter() {
         "000000000001",
         "1.00000000000",
     ] {
-        assert!(price_too_long(v.as_bytes()), "{v}");
+        assert!(price_too_long(v.as_bytes(), b"3"), "{v}");
+        // notation 1 has no limits but those of the form
+        assert!(!price_too_long(v.as_bytes(), b"1"), "{v}");
+    }
+}
+
+#[test]
+fn notation_4_is_a_whole_number_of_five_digits() {
+    for v in ["0", "-0", "257", "12345", "-99999", "00001"] {
+        assert!(!price_too_long(v.as_bytes(), b"4"), "{v}");
+    }
+    // 6 digits; a digit after the point; zeros count as they are sent
+    for v in [
+        "123456", "-123456", "000001", "0.5", "0.0", "12345.0", "1234.5", "-1.0",
+    ] {
+        assert!(price_too_long(v.as_bytes(), b"4"), "{v}");
     }
 }
 

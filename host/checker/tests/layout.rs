@@ -30,6 +30,8 @@ fn right_layouts() {
     assert!(layout_right(&laid_out(&all)));
     let count = usize::from(LAST_CODE);
     assert_eq!(laid_out(&all).len(), COUNT + ENTRY * count + count);
+    // n may reach 28: 2 bytes, 28 entries of 4 and 28 values of one byte
+    assert_eq!((count, laid_out(&all).len()), (28, 142));
 }
 
 #[test]

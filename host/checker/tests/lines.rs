@@ -41,13 +41,16 @@ fn a_newt_field_by_field() {
         "T",                    // large
         "T",                    // package
         "-7.25               ", // price
-        "1",                    // notation
+        "1",                    // price notation
         "EUR",                  // price currency
         "IR",                   // asset class
         "0000000012000000",     // notional: 12,345,678.9
         " ",                    // plus
         "USD",                  // notional currency
         "HK",                   // location
+        "                    ", // spread
+        " ",                    // spread notation
+        "   ",                  // spread currency
         "\n",
     ]);
     assert_eq!(book.line(), line);
@@ -105,6 +108,76 @@ fn what_is_missing_or_left_out_is_spaces() {
         &book.line()[line::PACKAGE..line::CLASS],
         "T0.5                 3   "
     );
+}
+
+/// What a line shows of a package: the indicator, price, its notation and its
+/// currency; and from 145 up to the newline spread, its notation and its currency.
+fn package_shown(book: &Book) -> (&str, &str) {
+    assert_eq!(&book.line()[169..], "\n");
+    (&book.line()[96..121], &book.line()[145..169])
+}
+
+#[test]
+fn a_package_shows_its_price_or_its_spread() {
+    let mut book = Book::new(1);
+    let no_price = format!("T{:24}", "");
+    let no_spread = " ".repeat(24);
+    book.accept(&with_spread(newt(), "-0012.500", "1"));
+    let shown = package_shown(&book);
+    assert_eq!(shown, (&*no_price, "-12.5               1GBP"));
+    // TERM shows the stored ones
+    book.accept(&term());
+    let shown = package_shown(&book);
+    assert_eq!(shown, (&*no_price, "-12.5               1GBP"));
+    book.accept(&full("REVI", None));
+    assert_eq!(package_shown(&book), (&*format!("F{:24}", ""), &*no_spread));
+    for (spread, notation, shown) in [
+        ("0.02570", "3", "0.0257              3   "),
+        ("-0.0", "3", "0                   3   "),
+        ("00257", "4", "257                 4   "),
+        ("-99999", "4", "-99999              4   "),
+        ("-0", "4", "0                   4   "),
+        ("-12345.1234567890123", "1", "-12345.12345678901231GBP"),
+        ("123456789012345678", "1", "123456789012345678  1GBP"),
+    ] {
+        book.accept(&with_spread(modi(), spread, notation));
+        assert_eq!(package_shown(&book), (&*no_price, shown));
+        assert_eq!(book.row(0)[155..179], *shown.as_bytes());
+    }
+    book.accept(&with_package(modi(), "5", "3"));
+    let shown = package_shown(&book);
+    assert_eq!(shown, ("T5                   3   ", &*no_spread));
+}
+
+#[test]
+fn what_is_left_out_of_a_package() {
+    let mut book = Book::new(1);
+    book.accept(&newt());
+    let no_package = format!("F{:24}", "");
+    let no_price = format!("T{:24}", "");
+    let no_spread = " ".repeat(24);
+    // 26, 27 and 28 where there is no package, also beside a price
+    let m = with(with_spread(modi(), "7", "1"), 15, "False");
+    book.accept(&m);
+    assert_eq!(package_shown(&book), (&*no_package, &*no_spread));
+    book.accept(&with(with_package(m, "5", "1"), 15, "false"));
+    assert_eq!(package_shown(&book), (&*no_package, &*no_spread));
+    // 27 and 28 without a spread
+    let m = with(with_package(modi(), "5", "3"), 27, "1");
+    book.accept(&with(m, 28, "GBP"));
+    let shown = package_shown(&book);
+    assert_eq!(shown, ("T5                   3   ", &*no_spread));
+    // 18 and 19 without a price
+    let m = with(with_spread(modi(), "7", "4"), 18, "1");
+    book.accept(&with(m, 19, "EUR"));
+    let shown = package_shown(&book);
+    assert_eq!(shown, (&*no_price, "7                   4   "));
+    // 28 where 27 is not 1
+    for notation in ["3", "4"] {
+        book.accept(&with(with_spread(modi(), "7", notation), 28, "GBP"));
+        let due = format!("{:20}{notation}   ", "7");
+        assert_eq!(package_shown(&book), (&*no_price, &*due));
+    }
 }
 
 #[test]

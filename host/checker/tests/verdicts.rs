@@ -43,7 +43,10 @@ fn opening_writes_the_header_alone() {
         (SHORTEST_LEDGER, 1),
         (sizes::ledger_size(2) - 1, 1),
         (sizes::ledger_size(2), 2),
-        (sizes::ledger_size(400), 400),
+        (sizes::ledger_size(340), 340),
+        (248, 1),
+        (431, 1),
+        (432, 2),
     ] {
         let mut ledger = vec![0xEE; length];
         assert_eq!(open(&mut ledger, &caps), 0);
@@ -100,6 +103,7 @@ fn verdict_3_ledger_wrong() {
         (header::FIRST_ROW, header::SIZE as u32 + 1),
         (header::FIRST_ROW, u32::MAX),
         (header::ROW_SIZE, row::SIZE as u32 - 1),
+        (header::ROW_SIZE, 160), // a row without a spread
         (header::ROW_SIZE, 0),
         (header::CAPACITY, 2),
         (header::CAPACITY, 4),
@@ -209,7 +213,7 @@ fn verdict_8_element_not_taken() {
     let mut book = Book::new(1);
     book.accept(&newt());
     let all = with(with_package(full("TERM", Some("ETRM")), "1", "1"), 22, "US");
-    let all = with(all, 11, "True");
+    let all = with_spread(with(all, 11, "True"), "1", "1");
     assert_eq!(all.len(), usize::from(LAST_CODE));
     for (action, event) in [
         ("TERM", Some("ETRM")),
@@ -233,12 +237,10 @@ fn verdict_8_element_not_taken() {
 #[test]
 fn verdict_9_form_broken() {
     let mut book = Book::new(1);
-    // every element but the action, whose form is 6
-    let whole = with(
-        with(with_package(newt(), "1.5", "1"), 22, "US"),
-        11,
-        "false",
-    );
+    // every element but the action, whose form is 6; 9 comes before 19
+    let price = with(with_package(newt(), "1.5", "1"), 22, "US");
+    let price = with(price, 11, "false");
+    let whole = with_spread(price.clone(), "1.5", "1");
     for (code, bad) in [
         (1, "5493001KJTIIGC8Y1R12"),
         (1, "5493001KJTIIGC8Y1R12swap"),
@@ -278,17 +280,32 @@ fn verdict_9_form_broken() {
         (24, "529900T8BM49AURSDO56"),
         (25, "ir"),
         (25, "XX"),
+        (26, "1.12345678901234"),
+        (26, "1234567890123456789"),
+        (26, "+1"),
+        (26, ".5"),
+        (26, "--5"),
+        (26, "12345."),
+        (27, "2"),
+        (27, "5"),
+        (27, "04"),
+        (27, "44"),
+        (28, "gbp"),
+        (28, "GB"),
+        (28, "EURO"),
     ] {
         book.refuse(&with(whole.clone(), code, bad), 9, code as u8);
         // the lowest one is named
-        if code < 25 {
+        if code < 28 {
             book.refuse(
-                &with(with(whole.clone(), 25, "?"), code, bad),
+                &with(with(whole.clone(), 28, "?"), code, bad),
                 9,
                 code as u8,
             );
         }
     }
+    // a price has no notation 4
+    book.refuse(&with(whole.clone(), 18, "4"), 9, 18);
     // 100 letters or digits of either case, not 101
     book.refuse(&with(whole.clone(), 16, &"aZ9".repeat(34)[..101]), 9, 16);
     // the codes of an action that is not full
@@ -299,9 +316,41 @@ fn verdict_9_form_broken() {
     for (code, bad) in [(11, "x"), (16, "-"), (17, "x"), (18, "x"), (19, "x")] {
         book.refuse(&with(newt(), code, bad), 9, code as u8);
     }
+    for (code, bad) in [(26, "x"), (27, "2"), (28, "x")] {
+        book.refuse(&with(newt(), code, bad), 9, code as u8);
+    }
+    for (code, bad) in [(27, "2"), (28, "x")] {
+        book.refuse(&with(price.clone(), code, bad), 9, code as u8);
+    }
+    for (code, bad) in [(18, "4"), (19, "x")] {
+        let spread = with_spread(newt(), "7", "4");
+        book.refuse(&with(spread, code, bad), 9, code as u8);
+    }
     // 9 comes before 10
     book.refuse(&with(with(newt(), 3, "ETRM"), 25, "xx"), 9, 25);
-    book.accept(&with(whole, 16, &"aZ9".repeat(34)[..100]));
+    book.accept(&with(price, 16, &"aZ9".repeat(34)[..100]));
+}
+
+/// The form of 26 is that of 17; 27 is 1, 3 or 4; 28 is 3 capitals.
+#[test]
+fn the_forms_of_a_spread() {
+    let mut book = Book::new(1);
+    book.accept(&newt());
+    for spread in [
+        "0",
+        "-0",
+        "-5.5",
+        "123456789012345678",
+        "-123456789012345678",
+        "-12345.1234567890123",
+        "0.0000000000000",
+    ] {
+        book.accept(&with_spread(modi(), spread, "1"));
+    }
+    for notation in ["1", "3", "4"] {
+        book.accept(&with_spread(modi(), "5", notation));
+    }
+    book.accept(&with(with_spread(modi(), "5", "1"), 28, "AZQ"));
 }
 
 #[test]
@@ -326,7 +375,7 @@ fn verdict_11_conditional_missing() {
     // 11 if Cleared is N
     let not_cleared = with(newt(), 10, "N");
     book.refuse(&not_cleared, 11, 11);
-    // 16, 17 and 18 if 15 is true, 19 if 18 is 1 too
+    // 16 and 17 if 15 is true, 18 beside 17, 19 if 18 is 1
     for truth in ["True", "true"] {
         let package = with(with_package(newt(), "1.5", "1"), 15, truth);
         for code in [16, 17, 18, 19] {
@@ -337,6 +386,18 @@ fn verdict_11_conditional_missing() {
         book.refuse(&without(without(package.clone(), 17), 18), 11, 17);
         book.refuse(&without(without(package.clone(), 18), 19), 11, 18);
         book.refuse(&with(without(package.clone(), 16), 10, "N"), 11, 11);
+        // 27 beside 26, 28 if 27 is 1
+        let package = with(with_spread(newt(), "1.5", "1"), 15, truth);
+        for code in [16, 27, 28] {
+            book.refuse(&without(package.clone(), code), 11, code as u8);
+        }
+        book.refuse(&without(without(package.clone(), 27), 28), 11, 27);
+        book.refuse(&without(without(package.clone(), 16), 27), 11, 16);
+        // with neither price nor spread 17 is named
+        book.refuse(&without(package.clone(), 26), 11, 17);
+        let neither = with(with(newt(), 15, truth), 16, "Package1");
+        book.refuse(&neither, 11, 17);
+        book.refuse(&with(with(neither, 18, "1"), 27, "1"), 11, 17);
     }
     // 11 comes before 12 and 13
     let long = with_package(newt(), "123456789012", "3");
@@ -348,6 +409,44 @@ fn verdict_11_conditional_missing() {
     book.accept(&other(1, with(newt(), 10, "Y")));
     book.accept(&other(2, with(newt(), 15, "False")));
     book.accept(&other(3, with_package(newt(), "1.5", "3")));
+    // a spread asks for no price, notation 3 or 4 for no currency
+    for (n, notation) in [(4, "1"), (5, "3"), (6, "4")] {
+        book.accept(&other(n, with_spread(newt(), "15", notation)));
+    }
+    // without a price 18 asks for no 19, without a spread 27 for no 28
+    book.accept(&other(7, with(with_spread(newt(), "15", "4"), 18, "1")));
+    book.accept(&other(8, with(with_package(newt(), "15", "3"), 27, "1")));
+}
+
+#[test]
+fn verdict_19_price_and_spread() {
+    let mut book = Book::new(1);
+    for price_notation in ["1", "3"] {
+        for spread_notation in ["1", "3", "4"] {
+            let m = with_package(newt(), "1.5", price_notation);
+            let both = with_spread(m, "15", spread_notation);
+            book.refuse(&both, 19, 0);
+            // 11 comes before 19: each of the two needs its own
+            for code in [16, 18, 27] {
+                book.refuse(&without(both.clone(), code), 11, code as u8);
+            }
+            if price_notation == "1" {
+                book.refuse(&without(both.clone(), 19), 11, 19);
+            }
+            if spread_notation == "1" {
+                book.refuse(&without(both.clone(), 28), 11, 28);
+            }
+            book.refuse(&with(both, 10, "N"), 11, 11);
+        }
+    }
+    // 19 comes before 12, 13 and 15
+    let long = with_package(newt(), "123456789012", "3");
+    book.refuse(&with_spread(long, "1.5", "4"), 19, 0);
+    let both = with_spread(with_package(modi(), "1.5", "3"), "15", "4");
+    book.refuse(&with(both.clone(), 8, "2000-01-01"), 19, 0);
+    book.refuse(&both, 19, 0);
+    // only of a package
+    book.accept(&with(with(both, 2, "NEWT"), 15, "False"));
 }
 
 #[test]
@@ -364,6 +463,57 @@ fn verdict_12_price_too_long() {
     book.accept(&other(2, with_package(newt(), "-1.0123456789", "3")));
     // no package, no such test
     book.accept(&other(3, with(m, 15, "False")));
+}
+
+#[test]
+fn verdict_12_spread_too_long() {
+    let mut book = Book::new(1);
+    book.accept(&newt());
+    for (bad, notation) in [
+        ("123456789012", "3"),
+        ("-123456789012", "3"),
+        ("0.01234567890", "3"),
+        ("-12.0123456789", "3"),
+        ("000000000000", "3"),
+        ("123456", "4"),
+        ("-123456", "4"),
+        ("000000", "4"),
+        ("12345.0", "4"),
+        ("0.5", "4"),
+        ("-1.0", "4"),
+    ] {
+        let m = with_spread(modi(), bad, notation);
+        book.refuse(&m, 12, 0);
+        // 12 comes before 13
+        book.refuse(&with(m.clone(), 8, "2000-01-01"), 12, 0);
+        // no package, no such test
+        book.accept(&with(m, 15, "False"));
+        // the notation of a price that is not there does not matter
+        let m = with_spread(modi(), bad, notation);
+        book.refuse(&with(m, 18, "1"), 12, 0);
+        book.accept(&with(with_spread(modi(), bad, "1"), 18, "3"));
+    }
+    for (good, notation) in [
+        ("12345678901", "3"),
+        ("-1.0123456789", "3"),
+        ("0.0000000000", "3"),
+        ("12345", "4"),
+        ("-99999", "4"),
+        ("00000", "4"),
+        ("-0", "4"),
+        ("123456789012345678", "1"),
+        ("0.0123456789012", "1"),
+    ] {
+        book.accept(&with_spread(modi(), good, notation));
+    }
+    // nor does the notation of a spread that is not there
+    for notation in ["3", "4"] {
+        let m = with_package(modi(), "123456789012", "1");
+        book.accept(&with(m, 27, notation));
+    }
+    // without a package neither the price nor the spread is judged
+    let long = with_package(modi(), "123456789012", "3");
+    book.accept(&with(with_spread(long, "12345.0", "4"), 15, "false"));
 }
 
 #[test]

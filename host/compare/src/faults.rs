@@ -49,6 +49,14 @@ pub enum Layout {
     TooLong,
 }
 
+/// Which number has too many digits (12).
+#[derive(Clone, Copy, Debug, PartialEq, Eq)]
+pub enum TooLong {
+    DecimalPrice,
+    DecimalSpread,
+    BasisPoints,
+}
+
 /// Two values in the wrong order (13).
 #[derive(Clone, Copy, Debug, PartialEq, Eq)]
 pub enum Order {
@@ -78,7 +86,8 @@ pub enum Fault {
     FormBroken(u8),
     NotAPair,
     ConditionalMissing(u8),
-    PriceTooLong,
+    PriceAndSpread,
+    PriceTooLong(TooLong),
     DatesDisordered(Order),
     RowWrong(WrongRow),
     NotAdmitted(u8),
@@ -100,7 +109,8 @@ impl Fault {
             Fault::FormBroken(_) => sdr::FORM_BROKEN,
             Fault::NotAPair => sdr::NOT_A_PAIR,
             Fault::ConditionalMissing(_) => sdr::CONDITIONAL_MISSING,
-            Fault::PriceTooLong => sdr::PRICE_TOO_LONG,
+            Fault::PriceAndSpread => sdr::PRICE_AND_SPREAD,
+            Fault::PriceTooLong(_) => sdr::PRICE_TOO_LONG,
             Fault::DatesDisordered(_) => sdr::DATES_DISORDERED,
             Fault::RowWrong(_) => sdr::ROW_WRONG,
             Fault::NotAdmitted(_) => sdr::NOT_ADMITTED,
@@ -138,9 +148,10 @@ impl Fault {
         match self {
             Fault::ElementMissing(code) | Fault::FormBroken(code) => takes(action, code),
             Fault::ElementNotTaken(code) => !takes(action, code),
-            Fault::ConditionalMissing(_) | Fault::PriceTooLong | Fault::DatesDisordered(_) => {
-                is_full(action)
-            }
+            Fault::ConditionalMissing(_)
+            | Fault::PriceAndSpread
+            | Fault::PriceTooLong(_)
+            | Fault::DatesDisordered(_) => is_full(action),
             Fault::NotAdmitted(status) => matrix::status_after(action, status).is_none(),
             Fault::OtherTime => matrix::repeats_execution(action),
             Fault::LedgerFull => action == "NEWT",
@@ -156,7 +167,7 @@ pub fn all() -> Vec<Fault> {
         Fault::TapeShort,
         Fault::ActionWrong,
         Fault::NotAPair,
-        Fault::PriceTooLong,
+        Fault::PriceAndSpread,
         Fault::OtherTime,
         Fault::LedgerFull,
         Fault::IdentifiersSpent,
@@ -168,6 +179,7 @@ pub fn all() -> Vec<Fault> {
     faults.extend(codes_of_full_messages().map(Fault::ElementNotTaken));
     faults.extend(codes_with_a_form().map(Fault::FormBroken));
     faults.extend(CONDITIONAL.map(Fault::ConditionalMissing));
+    faults.extend(TOO_LONG.map(Fault::PriceTooLong));
     faults.extend(
         [Order::Expiration, Order::Settlement, Order::Reporting].map(Fault::DatesDisordered),
     );
@@ -206,6 +218,12 @@ const LAYOUTS: [Layout; 14] = [
     Layout::OffsetAtEnd,
     Layout::CutAtLastValue,
     Layout::TooLong,
+];
+
+const TOO_LONG: [TooLong; 3] = [
+    TooLong::DecimalPrice,
+    TooLong::DecimalSpread,
+    TooLong::BasisPoints,
 ];
 
 const WRONG_ROWS: [WrongRow; 6] = [

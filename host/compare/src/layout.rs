@@ -45,15 +45,20 @@ pub const NOTIONAL_NUM: Num = Num {
     digits: 25,
     after_point: 5,
 };
-/// The package price.
+/// A price or a spread.
 pub const PRICE_NUM: Num = Num {
     digits: 18,
     after_point: 13,
 };
-/// The package price with the notation for decimals.
-pub const DECIMAL_PRICE_NUM: Num = Num {
+/// A price or a spread with the notation for decimals.
+pub const DECIMAL_NUM: Num = Num {
     digits: 11,
     after_point: 10,
+};
+/// A spread with the notation for basis points.
+pub const BASIS_POINTS_NUM: Num = Num {
+    digits: 5,
+    after_point: 0,
 };
 
 /// The shortest UTI.
@@ -77,7 +82,7 @@ pub const TIME_SIZE: usize = 20;
 pub const DATE_SIZE: usize = 10;
 /// One character, as of a truth.
 pub const MARK_SIZE: usize = 1;
-/// The characters of a price.
+/// The characters of a price or a spread.
 pub const PRICE_SIZE: usize = 20;
 /// The characters of a currency.
 pub const CURRENCY_SIZE: usize = 3;
@@ -102,14 +107,17 @@ pub const BLOCK_IN_LINE: Range<usize> = after(NON_STANDARDIZED_IN_LINE, MARK_SIZ
 pub const LARGE_IN_LINE: Range<usize> = after(BLOCK_IN_LINE, MARK_SIZE);
 pub const PACKAGE_IN_LINE: Range<usize> = after(LARGE_IN_LINE, MARK_SIZE);
 pub const PRICE_IN_LINE: Range<usize> = after(PACKAGE_IN_LINE, PRICE_SIZE);
-pub const NOTATION_IN_LINE: Range<usize> = after(PRICE_IN_LINE, MARK_SIZE);
-pub const PRICE_CURRENCY_IN_LINE: Range<usize> = after(NOTATION_IN_LINE, CURRENCY_SIZE);
+pub const PRICE_NOTATION_IN_LINE: Range<usize> = after(PRICE_IN_LINE, MARK_SIZE);
+pub const PRICE_CURRENCY_IN_LINE: Range<usize> = after(PRICE_NOTATION_IN_LINE, CURRENCY_SIZE);
 pub const CLASS_IN_LINE: Range<usize> = after(PRICE_CURRENCY_IN_LINE, CLASS_SIZE);
 pub const NOTIONAL_IN_LINE: Range<usize> = after(CLASS_IN_LINE, NOTIONAL_SIZE);
 pub const PLUS_IN_LINE: Range<usize> = after(NOTIONAL_IN_LINE, MARK_SIZE);
 pub const NOTIONAL_CURRENCY_IN_LINE: Range<usize> = after(PLUS_IN_LINE, CURRENCY_SIZE);
 pub const LOCATION_IN_LINE: Range<usize> = after(NOTIONAL_CURRENCY_IN_LINE, LOCATION_SIZE);
-pub const NEWLINE_IN_LINE: Range<usize> = after(LOCATION_IN_LINE, MARK_SIZE);
+pub const SPREAD_IN_LINE: Range<usize> = after(LOCATION_IN_LINE, PRICE_SIZE);
+pub const SPREAD_NOTATION_IN_LINE: Range<usize> = after(SPREAD_IN_LINE, MARK_SIZE);
+pub const SPREAD_CURRENCY_IN_LINE: Range<usize> = after(SPREAD_NOTATION_IN_LINE, CURRENCY_SIZE);
+pub const NEWLINE_IN_LINE: Range<usize> = after(SPREAD_CURRENCY_IN_LINE, MARK_SIZE);
 
 /// The bytes of a line.
 pub const LINE_SIZE: usize = NEWLINE_IN_LINE.end;
@@ -168,7 +176,7 @@ pub const LENGTH_SIZE: usize = U16_SIZE;
 /// The largest length.
 pub const LARGEST_LENGTH: usize = 65_535;
 /// The rows that the day run opens.
-pub const DAY_ROWS: usize = 400;
+pub const DAY_ROWS: usize = 340;
 /// The caps that the day run opens with.
 pub const DAY_CAPS: Caps = [250_000_000; CLASSES.len()];
 

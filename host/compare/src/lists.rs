@@ -30,9 +30,12 @@ pub const SETTLEMENT_LOCATION: u8 = 22;
 pub const COUNTERPARTY_1: u8 = 23;
 pub const COUNTERPARTY_2: u8 = 24;
 pub const ASSET_CLASS: u8 = 25;
+pub const PACKAGE_SPREAD: u8 = 26;
+pub const SPREAD_NOTATION: u8 = 27;
+pub const SPREAD_CURRENCY: u8 = 28;
 
 /// The last element code.
-pub const LAST_CODE: u8 = ASSET_CLASS;
+pub const LAST_CODE: u8 = SPREAD_CURRENCY;
 /// The last code that a message takes whose action is not full.
 const LAST_SHORT: u8 = REPORTING_TIMESTAMP;
 
@@ -57,13 +60,17 @@ pub const NEEDED_BY_FULL: [u8; 14] = [
     ASSET_CLASS,
 ];
 /// The conditional codes.
-pub const CONDITIONAL: [u8; 5] = [
+pub const CONDITIONAL: [u8; 7] = [
     NON_STANDARDIZED_TERM,
     PACKAGE_IDENTIFIER,
     PACKAGE_PRICE,
     PRICE_NOTATION,
     PRICE_CURRENCY,
+    SPREAD_NOTATION,
+    SPREAD_CURRENCY,
 ];
+/// The codes that no message needs.
+pub const OPTIONAL: [u8; 2] = [SETTLEMENT_LOCATION, PACKAGE_SPREAD];
 /// The codes whose value is a truth.
 pub const TRUTH_CODES: [u8; 4] = [
     NON_STANDARDIZED_TERM,
@@ -173,11 +180,39 @@ pub const FALSE: [&str; 2] = ["False", "false"];
 pub const CLEARED_VALUES: [&str; 3] = ["Y", NOT_CLEARED, "I"];
 pub const NOT_CLEARED: &str = "N";
 pub const ALLOCATIONS: [&str; 3] = ["POST", "PREA", "UNAL"];
-pub const NOTATIONS: [&str; 2] = [MONETARY, DECIMAL];
 pub const MONETARY: &str = "1";
 pub const DECIMAL: &str = "3";
+pub const BASIS_POINTS: &str = "4";
+pub const PRICE_NOTATIONS: [&str; 2] = [MONETARY, DECIMAL];
+pub const SPREAD_NOTATIONS: [&str; 3] = [MONETARY, DECIMAL, BASIS_POINTS];
 /// The asset classes, in the order of the caps.
 pub const CLASSES: [&str; 5] = ["CR", "IR", "FX", "EQ", "CO"];
+
+// Quotes.
+
+/// What a package is quoted by: the code of its number, those of notation and
+/// currency, and the notations that there are.
+#[derive(Clone, Copy, Debug, PartialEq, Eq)]
+pub struct Quote {
+    pub number: u8,
+    pub notation: u8,
+    pub currency: u8,
+    pub notations: &'static [&'static str],
+}
+
+pub const PRICE: Quote = Quote {
+    number: PACKAGE_PRICE,
+    notation: PRICE_NOTATION,
+    currency: PRICE_CURRENCY,
+    notations: &PRICE_NOTATIONS,
+};
+pub const SPREAD: Quote = Quote {
+    number: PACKAGE_SPREAD,
+    notation: SPREAD_NOTATION,
+    currency: SPREAD_CURRENCY,
+    notations: &SPREAD_NOTATIONS,
+};
+pub const QUOTES: [Quote; 2] = [PRICE, SPREAD];
 
 // The masked notional.
 
@@ -205,7 +240,8 @@ mod tests {
     #[test]
     fn every_code_is_needed_somehow_once() {
         let mut found = [NEEDED_BY_ALL.as_slice(), &NEEDED_BY_FULL, &CONDITIONAL].concat();
-        found.extend([ACTION_TYPE, EVENT_TYPE, SETTLEMENT_LOCATION]);
+        found.extend([ACTION_TYPE, EVENT_TYPE]);
+        found.extend(OPTIONAL);
         found.sort();
         assert!(codes().eq(found));
         assert!(is_code(1) && is_code(LAST_CODE) && !is_code(0) && !is_code(LAST_CODE + 1));

@@ -22,9 +22,10 @@ pub fn values(code: u8) -> Vec<Vec<u8>> {
         _ if TRUTH_CODES.contains(&code) => truths(),
         ALLOCATION => list(&["post", "POS", "POSTS", "PREB", "UNAL ", "Prea", "ALOC", "P"]),
         PACKAGE_IDENTIFIER => package_identifiers(),
-        PACKAGE_PRICE => prices(),
+        PACKAGE_PRICE | PACKAGE_SPREAD => prices(),
         PRICE_NOTATION => list(&["2", "0", "4", "11", "1 ", " 3", "I", "-1", "1.0"]),
-        PRICE_CURRENCY | NOTIONAL_CURRENCY => {
+        SPREAD_NOTATION => list(&["2", "0", "5", "14", "4 ", " 1", "I", "-4", "4.0", "04"]),
+        PRICE_CURRENCY | NOTIONAL_CURRENCY | SPREAD_CURRENCY => {
             list(&["US", "USDX", "usd", "U5D", "US ", "$", "UsD", "U[D", "@BC"])
         }
         NOTIONAL_AMOUNT => amounts(),
@@ -220,14 +221,30 @@ fn leis() -> Vec<Vec<u8>> {
     values
 }
 
-/// Prices that are sound, but longer than a decimal one may be.
-pub const LONG_DECIMAL_PRICES: [&str; 8] = [
+/// Prices and spreads that are sound, but longer than the notation for decimals
+/// allows.
+pub const LONG_DECIMALS: [&str; 8] = [
     "123456789012",
     "-123456789012",
     "0.12345678901",
     "-0.12345678901",
     "000000000000",
     "1234567.89012",
+    "123456789012345678",
+    "12345.1234567890123",
+];
+
+/// Spreads that are sound, but longer than the notation for basis points
+/// allows.
+pub const LONG_BASIS_POINTS: [&str; 10] = [
+    "123456",
+    "-123456",
+    "000000",
+    "000001",
+    "0.0",
+    "-0.5",
+    "1234.5",
+    "12345.0",
     "123456789012345678",
     "12345.1234567890123",
 ];

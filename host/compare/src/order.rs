@@ -7,7 +7,7 @@ use sdr::{ACCEPTED, DATES_DISORDERED, LAYOUT_WRONG};
 pub const OPENING: [u8; 2] = [1, 2];
 
 /// The rules of a submission.
-pub const SUBMITTING: [u8; 16] = [3, 4, 5, 6, 7, 8, 9, 10, 11, 12, 13, 14, 15, 16, 17, 18];
+pub const SUBMITTING: [u8; 17] = [3, 4, 5, 6, 7, 8, 9, 10, 11, 19, 12, 13, 14, 15, 16, 17, 18];
 
 /// The rules of a status question.
 pub const ASKING: [u8; 3] = [3, 9, 14];
@@ -93,6 +93,8 @@ mod tests {
         assert_eq!(from_to(9, 11), [9, 10, 11]);
         assert_eq!(first_of(&[17, 4, 10]), 4);
         assert_eq!(first_of(&[18]), 18);
+        assert_eq!(first_of(&[12, 19, 13]), 19);
+        assert_eq!(first_of(&[19, 11]), 11);
         assert_eq!(first_of(&[]), 0);
     }
 }

@@ -1,11 +1,11 @@
 //! Sound messages: those that break no rule that looks at the message alone.
 
-use crate::layout::{DECIMAL_PRICE_NUM, PRICE_NUM};
+use crate::layout::{Num, BASIS_POINTS_NUM, DECIMAL_NUM, PRICE_NUM};
 use crate::lists::*;
 use crate::matrix::{events_of, is_full};
 use crate::message::Message;
 use crate::random::Random;
-use crate::terms::{applies, is_package, says};
+use crate::terms::{applies, is_package, is_quoted_by};
 use crate::values;
 
 /// A sound message of an action about a swap.
@@ -74,38 +74,87 @@ fn set_dates(random: &mut Random, message: &mut Message) {
 /// left out.
 fn set_package(random: &mut Random, message: &mut Message) {
     let package = is_package(message);
-    let extra = |random: &mut Random| package || random.once_in(4);
-    if extra(random) {
+    let quoted_by = *random.pick(&QUOTES);
+    if package || random.once_in(4) {
         message.set(PACKAGE_IDENTIFIER, values::package_identifier(random));
     }
-    if extra(random) {
-        message.set(PRICE_NOTATION, random.pick(&NOTATIONS));
-    }
-    if extra(random) {
-        let decimal = package && says(message, PRICE_NOTATION, DECIMAL);
-        let most = if decimal {
-            DECIMAL_PRICE_NUM
+    for quote in QUOTES {
+        if package && quote == quoted_by {
+            set_quote(random, message, &quote);
         } else {
-            PRICE_NUM
-        };
-        message.set(PACKAGE_PRICE, values::price(random, most));
-    }
-    if applies(message, PRICE_CURRENCY) || random.once_in(4) {
-        message.set(PRICE_CURRENCY, values::currency(random));
+            set_left_out(random, message, &quote);
+        }
     }
 }
 
-/// Makes a full message one of a package, with a monetary price and all that a
-/// package needs, where it is none.
+/// Sets price or spread with a notation, and the currency where it is needed
+/// or now and then.
+pub fn set_quote(random: &mut Random, message: &mut Message, quote: &Quote) {
+    let notation = *random.pick(quote.notations);
+    message.set(quote.notation, notation);
+    message.set(quote.number, values::price(random, most_digits(notation)));
+    if notation == MONETARY || random.once_in(4) {
+        message.set(quote.currency, values::currency(random));
+    }
+}
+
+/// The most digits that a notation allows.
+fn most_digits(notation: &str) -> Num {
+    match notation {
+        DECIMAL => DECIMAL_NUM,
+        BASIS_POINTS => BASIS_POINTS_NUM,
+        _ => PRICE_NUM,
+    }
+}
+
+/// Sets some elements of a quote that are left out. In a package the number
+/// is not among them.
+fn set_left_out(random: &mut Random, message: &mut Message, quote: &Quote) {
+    if !is_package(message) && random.once_in(4) {
+        message.set(quote.number, values::price(random, PRICE_NUM));
+    }
+    if random.once_in(4) {
+        message.set(quote.notation, random.pick(quote.notations));
+    }
+    if random.once_in(4) {
+        message.set(quote.currency, values::currency(random));
+    }
+}
+
+/// Makes a full message one of a package, with all that a package needs, where
+/// it is none.
 pub fn make_package(random: &mut Random, message: &mut Message) {
-    if is_package(message) {
+    if !is_package(message) {
+        let quote = *random.pick(&QUOTES);
+        make_quoted_by(random, message, &quote);
+    }
+}
+
+/// Makes a full message one of a package that is quoted so, with all that this
+/// needs, where it is none.
+pub fn make_quoted_by(random: &mut Random, message: &mut Message, quote: &Quote) {
+    if is_quoted_by(message, quote) {
         return;
     }
-    message.set(PACKAGE_INDICATOR, "True");
-    message.set(PACKAGE_IDENTIFIER, values::package_identifier(random));
-    message.set(PACKAGE_PRICE, values::price(random, PRICE_NUM));
-    message.set(PRICE_NOTATION, MONETARY);
-    message.set(PRICE_CURRENCY, values::currency(random));
+    if !is_package(message) {
+        message.set(PACKAGE_INDICATOR, "True");
+        message.set(PACKAGE_IDENTIFIER, values::package_identifier(random));
+    }
+    for other in QUOTES {
+        message.remove(other.number);
+    }
+    set_quote(random, message, quote);
+}
+
+/// Makes a full message one of a package that has price and spread, each with
+/// all that it needs.
+pub fn make_quoted_twice(random: &mut Random, message: &mut Message) {
+    make_package(random, message);
+    for quote in QUOTES {
+        if !is_quoted_by(message, &quote) {
+            set_quote(random, message, &quote);
+        }
+    }
 }
 
 /// The UTI of the swap with this number.
@@ -147,13 +196,23 @@ pub fn plain_new() -> Message {
 
 /// The plain NEWT message as one of a package with this notation and price.
 pub fn plain_package(notation: &str, price: &str) -> Message {
+    plain_quoted_by(&PRICE, notation, price)
+}
+
+/// The plain NEWT message as one of a package with this notation and spread.
+pub fn plain_spread(notation: &str, spread: &str) -> Message {
+    plain_quoted_by(&SPREAD, notation, spread)
+}
+
+/// The plain NEWT message as one of a package that is quoted so.
+pub fn plain_quoted_by(quote: &Quote, notation: &str, number: &str) -> Message {
     let mut message = plain_new();
     message
         .set(PACKAGE_INDICATOR, "True")
         .set(PACKAGE_IDENTIFIER, "PACKAGE1")
-        .set(PACKAGE_PRICE, price)
-        .set(PRICE_NOTATION, notation)
-        .set(PRICE_CURRENCY, "USD");
+        .set(quote.number, number)
+        .set(quote.notation, notation)
+        .set(quote.currency, "USD");
     message
 }
 
@@ -169,4 +228,54 @@ pub fn plain_short(action: &str, event: Option<&str>) -> Message {
         message.set(EVENT_TYPE, event);
     }
     message
+}
+
+#[cfg(test)]
+mod tests {
+    use super::*;
+    use crate::terms::says;
+
+    fn messages() -> Vec<Message> {
+        let mut random = Random::for_test(301);
+        let uti = uti_of(1);
+        let next = |_| message(&mut random, "NEWT", uti.as_bytes());
+        (0..2_000).map(next).collect()
+    }
+
+    #[test]
+    fn packages_are_quoted_by_price_or_spread_with_each_notation() {
+        let messages = messages();
+        for message in messages.iter().filter(|message| is_package(message)) {
+            assert_ne!(
+                is_quoted_by(message, &PRICE),
+                is_quoted_by(message, &SPREAD)
+            );
+        }
+        for quote in QUOTES {
+            for notation in quote.notations {
+                let fitting = |message: &&Message| {
+                    is_quoted_by(message, &quote) && says(message, quote.notation, notation)
+                };
+                assert!(messages.iter().filter(fitting).count() > 100, "{notation}");
+            }
+        }
+    }
+
+    #[test]
+    fn elements_that_are_left_out_are_there() {
+        let messages = messages();
+        let quotes = QUOTES.map(|quote| [quote.number, quote.notation, quote.currency]);
+        for code in quotes.concat() {
+            let left_out = |message: &&Message| message.has(code) && !applies(message, code);
+            assert!(messages.iter().filter(left_out).count() > 100, "{code}");
+        }
+        // 18 and 19 beside a spread, 27 and 28 beside a price.
+        for (quote, other) in [(SPREAD, PRICE), (PRICE, SPREAD)] {
+            for code in [other.notation, other.currency] {
+                let beside =
+                    |message: &&Message| is_quoted_by(message, &quote) && message.has(code);
+                assert!(messages.iter().filter(beside).count() > 50, "{code}");
+            }
+        }
+    }
 }

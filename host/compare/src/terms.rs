@@ -1,4 +1,4 @@
-//! What a line shows: the masked notional, the price, the masked terms.
+//! What a line shows: the masked notional, price and spread, the masked terms.
 
 use crate::layout::*;
 use crate::lists::*;
@@ -43,7 +43,7 @@ pub fn masked(amount: &[u8], cap: u64) -> (u64, bool) {
     (shown, false)
 }
 
-/// A sound price as the line shows it.
+/// A sound price or spread as the line shows it.
 pub fn shown_price(price: &[u8]) -> Vec<u8> {
     let text = std::str::from_utf8(price).expect("a price is ASCII");
     let (minus, number) = match text.strip_prefix('-') {
@@ -76,12 +76,21 @@ pub fn says(message: &Message, code: u8, value: &str) -> bool {
     message.value(code) == value.as_bytes()
 }
 
-/// Whether the element's "if" is met or it has none.
+/// Whether the message is one of a package that is quoted so.
+pub fn is_quoted_by(message: &Message, quote: &Quote) -> bool {
+    is_package(message) && message.has(quote.number)
+}
+
+/// Whether the element counts where it is there; else it is left out.
 pub fn applies(message: &Message, code: u8) -> bool {
+    let quoted = |quote| is_quoted_by(message, quote);
     match code {
         NON_STANDARDIZED_TERM => says(message, CLEARED, NOT_CLEARED),
-        PACKAGE_IDENTIFIER | PACKAGE_PRICE | PRICE_NOTATION => is_package(message),
-        PRICE_CURRENCY => is_package(message) && says(message, PRICE_NOTATION, MONETARY),
+        PACKAGE_IDENTIFIER | PACKAGE_PRICE | PACKAGE_SPREAD => is_package(message),
+        PRICE_NOTATION => quoted(&PRICE),
+        PRICE_CURRENCY => quoted(&PRICE) && says(message, PRICE_NOTATION, MONETARY),
+        SPREAD_NOTATION => quoted(&SPREAD),
+        SPREAD_CURRENCY => quoted(&SPREAD) && says(message, SPREAD_NOTATION, MONETARY),
         _ => true,
     }
 }
@@ -111,14 +120,17 @@ pub fn terms_of(message: &Message, caps: &Caps) -> [u8; TERMS_SIZE] {
     put(BLOCK_IN_LINE, shown_truth(message, BLOCK_ELECTION));
     put(LARGE_IN_LINE, shown_truth(message, LARGE_NOTIONAL_ELECTION));
     put(PACKAGE_IN_LINE, shown_truth(message, PACKAGE_INDICATOR));
-    put(PRICE_IN_LINE, &price_of(message));
-    put(NOTATION_IN_LINE, shown(message, PRICE_NOTATION));
+    put(PRICE_IN_LINE, &shown_number(message, PACKAGE_PRICE));
+    put(PRICE_NOTATION_IN_LINE, shown(message, PRICE_NOTATION));
     put(PRICE_CURRENCY_IN_LINE, shown(message, PRICE_CURRENCY));
     put(CLASS_IN_LINE, message.value(ASSET_CLASS));
     put(NOTIONAL_IN_LINE, &digits(amount, NOTIONAL_SIZE));
     put(PLUS_IN_LINE, if plus { b"+" } else { b"" });
     put(NOTIONAL_CURRENCY_IN_LINE, message.value(NOTIONAL_CURRENCY));
     put(LOCATION_IN_LINE, message.value(SETTLEMENT_LOCATION));
+    put(SPREAD_IN_LINE, &shown_number(message, PACKAGE_SPREAD));
+    put(SPREAD_NOTATION_IN_LINE, shown(message, SPREAD_NOTATION));
+    put(SPREAD_CURRENCY_IN_LINE, shown(message, SPREAD_CURRENCY));
     line[TERMS_IN_LINE].try_into().expect("the terms' size")
 }
 
@@ -127,7 +139,7 @@ fn digits(number: u64, size: usize) -> Vec<u8> {
     format!("{number:0size$}").into_bytes()
 }
 
-/// The value where its "if" is met, else nothing.
+/// The value where it counts, else nothing.
 fn shown(message: &Message, code: u8) -> &[u8] {
     if applies(message, code) {
         message.value(code)
@@ -144,10 +156,11 @@ fn shown_truth(message: &Message, code: u8) -> &'static [u8] {
     }
 }
 
-fn price_of(message: &Message) -> Vec<u8> {
-    match shown(message, PACKAGE_PRICE) {
+/// A price or a spread as the line shows it, or nothing.
+fn shown_number(message: &Message, code: u8) -> Vec<u8> {
+    match shown(message, code) {
         b"" => Vec::new(),
-        price => shown_price(price),
+        number => shown_price(number),
     }
 }
 

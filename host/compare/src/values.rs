@@ -284,13 +284,13 @@ fn is_notional(amount: &[u8]) -> bool {
     digits <= NOTIONAL_NUM.digits && after <= NOTIONAL_NUM.after_point
 }
 
-/// A price of at most so many digits.
+/// A price or a spread of at most so many digits.
 pub fn price(random: &mut Random, most: Num) -> Vec<u8> {
     let mut text = Vec::new();
     if random.once_in(3) {
         text.push(b'-');
     }
-    let after = if random.once_in(4) {
+    let after = if most.after_point == 0 || random.once_in(4) {
         0
     } else {
         random.between(1, most.after_point)

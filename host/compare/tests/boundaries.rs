@@ -87,9 +87,14 @@ fn message_of_length(length: usize) -> Vec<u8> {
 fn all_elements_at_once() {
     let mut message = plain_package("1", "5");
     message.set(11, "True").set(22, "US");
+    message.set(26, "5").set(27, "1").set(28, "USD");
     assert_eq!(message.codes().len(), usize::from(LAST_CODE));
+    // A package has no price beside a spread; other messages leave both out.
+    assert_eq!(judged(&message.encode()), (19, 0));
+    message.set(15, "False");
     assert_eq!(judged(&message.encode()), (0, 0));
     assert_eq!(judged(&message.with(25, "XX").encode()), (9, 25));
+    assert_eq!(judged(&message.with(28, "usd").encode()), (9, 28));
 }
 
 #[test]
@@ -114,6 +119,9 @@ fn elements_of_a_full_message() {
             (18, "1"),
             (19, "JPY"),
             (22, "GB"),
+            (26, "1"),
+            (27, "4"),
+            (28, "JPY"),
         ] {
             let more = message.with(code, value);
             assert_eq!(judged(&more.encode()), passes, "{action} {code}");
@@ -278,6 +286,7 @@ fn prices_as_shown() {
 #[test]
 fn terms_as_shown() {
     let (new, not_cleared) = (plain_new(), plain_new().with(10, "N"));
+    let no_spread = "";
     let package = |notation: &str| plain_package(notation, "-01.250");
     for (message, marks, price, location) in [
         (new.clone(), "Y FFF", "", ""),
@@ -312,7 +321,7 @@ fn terms_as_shown() {
         let mut compared = opened(CAPS);
         assert_eq!(compared.submit(&message.encode()).verdict, 0);
         let due = format!(
-            "2024-03-01T10:15:30Z2024-03-042029-03-04{marks}{price:24}IR0000000001000000 USD{location:2}"
+            "2024-03-01T10:15:30Z2024-03-042029-03-04{marks}{price:24}IR0000000001000000 USD{location:2}{no_spread:24}"
         );
         assert_eq!(
             compared.tape()[TERMS_IN_LINE],

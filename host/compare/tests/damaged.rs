@@ -162,6 +162,40 @@ fn a_ledger_lent_shorter_or_longer() {
     }
 }
 
+/// Rows had 160 bytes before they had room for a spread.
+#[test]
+fn a_ledger_with_rows_of_160_bytes() {
+    // 864 bytes are a header and 5 rows of 160 bytes, or 4 rows of 184 bytes
+    // and 64 more.
+    for (length, row_size, capacity, due) in [
+        (864, 184, 4, (0, 0)),
+        (864, 160, 5, (3, 3)),
+        (864, 160, 4, (3, 3)),
+        (864, 184, 5, (3, 3)),
+        // The shortest ledgers: of two sizes, with room for one row.
+        (248, 184, 1, (15, 0)),
+        (248, 160, 1, (3, 3)),
+        (224, 160, 1, (3, 3)),
+        (224, 184, 1, (3, 3)),
+    ] {
+        let mut header = header(length);
+        header.rows = header.rows.min(capacity);
+        header.row_size = row_size;
+        header.capacity = capacity;
+        let ledger = ledger_of(&header, &rows(), length);
+        assert_eq!(
+            verdicts(&ledger),
+            due,
+            "{length} bytes, {row_size}, {capacity}"
+        );
+    }
+    // The shortest ledger of old is too short to be opened.
+    for (length, due) in [(224, 1), (247, 1), (248, 0)] {
+        let mut compared = lent(&vec![0xee; length]);
+        assert_eq!(compared.open(&CAPS).verdict, due, "{length}");
+    }
+}
+
 /// The verdicts where the plain swap's row is changed.
 fn verdicts_with(change: impl Fn(&mut Row)) -> (u8, u8) {
     let length = ledger_size(5);

@@ -7,7 +7,7 @@ use compare::layout::{ledger_size, Header, DAY_CAPS, HEADER_SIZE, IDENTIFIER_LIM
 use compare::layout::{LONGEST_MESSAGE, ROW_SIZE};
 use compare::lists::{codes_with_a_form, ACTIONS};
 use compare::random::Random;
-use compare::sound::{self, plain_new, plain_package};
+use compare::sound::{self, plain_new, plain_package, plain_spread};
 use compare::{submissions, values};
 
 #[test]
@@ -90,19 +90,22 @@ fn opened(random: &mut Random) -> Compared {
 #[test]
 fn every_prefix_of_a_sound_message() {
     let mut random = Random::for_test(504);
-    let whole = plain_package("1", "12.50").with(11, "True").with(22, "US");
-    let bytes = whole.encode();
-    // The last value is an asset class of two characters: one byte less makes
-    // it malformed, two bytes less leave it empty.
-    for length in 0..=bytes.len() {
-        let mut compared = opened(&mut random);
-        let answer = compared.submit(&bytes[..length]);
-        let due = match bytes.len() - length {
-            0 => (0, 0),
-            1 => (9, 25),
-            _ => (5, 0),
-        };
-        assert_eq!((answer.verdict, answer.element), due, "{length}");
+    let price = plain_package("1", "12.50").with(11, "True").with(22, "US");
+    let spread = plain_spread("1", "12.50").with(11, "True").with(22, "US");
+    // The last value is an asset class of two characters or a currency of
+    // three. Cut short, it is malformed; without it, the layout is wrong.
+    for (message, last, size) in [(price, 25, 2), (spread, 28, 3)] {
+        let bytes = message.encode();
+        for length in 0..=bytes.len() {
+            let mut compared = opened(&mut random);
+            let answer = compared.submit(&bytes[..length]);
+            let due = match bytes.len() - length {
+                0 => (0, 0),
+                cut if cut < size => (9, last),
+                _ => (5, 0),
+            };
+            assert_eq!((answer.verdict, answer.element), due, "{length}");
+        }
     }
 }
 

@@ -6,13 +6,13 @@ use compare::cycles::{next_message, Model};
 use compare::histories::{broken_premises, run, Call, History, Premise};
 use compare::layout::{ledger_size, Caps, DAY_CAPS, LINE_SIZE, NEXT_IN_HEADER, PRICE_NUM};
 use compare::layout::{ROW_SIZE, SMALLEST_CAP};
-use compare::lists::{codes_of_full_messages, ACTION_TYPE, ALLOCATIONS, CLASSES, CONDITIONAL};
-use compare::lists::{FALSE, TRUE, TRUTHS, TRUTH_CODES};
+use compare::lists::{codes, codes_of_full_messages, ACTION_TYPE, ALLOCATIONS, CLASSES, FALSE};
+use compare::lists::{PRICE_NOTATIONS, QUOTES, SPREAD_NOTATIONS, TRUE, TRUTHS, TRUTH_CODES};
 use compare::malformed;
 use compare::message::Message;
 use compare::random::Random;
-use compare::sound::{self, plain_package, swap};
-use compare::terms::{applies, cap_of, is_true};
+use compare::sound::{self, plain_package, plain_spread, swap};
+use compare::terms::{applies, cap_of, is_quoted_by, is_true, shown_price};
 use compare::values;
 use compare::{matrix, submissions};
 
@@ -124,15 +124,17 @@ fn spell_otherwise(random: &mut Random, message: &mut Message, code: u8) {
 
 /// Elements that are left out may be there or not, with any sound value.
 fn change_left_out(random: &mut Random, message: &mut Message) {
-    for code in CONDITIONAL {
+    for code in codes() {
         if applies(message, code) {
             continue;
         }
         match (random.below(3), code) {
             (0, _) => _ = message.remove(code),
             (1, 11) => _ = message.set(11, random.pick(&TRUTHS)),
-            (1, 17) => _ = message.set(17, values::price(random, PRICE_NUM)),
-            (1, 19) => _ = message.set(19, values::currency(random)),
+            (1, 17 | 26) => _ = message.set(code, values::price(random, PRICE_NUM)),
+            (1, 18) => _ = message.set(18, random.pick(&PRICE_NOTATIONS)),
+            (1, 27) => _ = message.set(27, random.pick(&SPREAD_NOTATIONS)),
+            (1, 19 | 28) => _ = message.set(code, values::currency(random)),
             _ => {}
         }
     }
@@ -140,7 +142,7 @@ fn change_left_out(random: &mut Random, message: &mut Message) {
 
 /// Two calls that are refused with the same number for different reasons.
 fn refused_pair(random: &mut Random) -> (Call, Call) {
-    let verdict = *random.pick(&[4, 5, 6, 7, 8, 9, 10, 11, 13, 15]);
+    let verdict = *random.pick(&[4, 5, 6, 7, 8, 9, 10, 11, 19, 12, 13, 15]);
     (refused(random, verdict), refused(random, verdict))
 }
 
@@ -162,11 +164,16 @@ fn refused(random: &mut Random, verdict: u8) -> Call {
             short.with(*random.pick(&codes), "value")
         }
         9 => {
-            let code = *random.pick(&[1, 3, 4, 7, 9, 10, 15, 17, 20, 22, 23, 24, 25]);
+            let code = *random.pick(&[1, 3, 4, 7, 9, 10, 15, 17, 20, 22, 23, 24, 25, 26, 27, 28]);
             full.with(code, random.pick(&malformed::values(code)))
         }
         10 => full.with(3, random.pick(&["ETRM", "CREV", "ABCD"])),
         11 => full.with(10, "N").without(11),
+        19 => plain_package("1", "5").with(26, "5").with(27, "3"),
+        12 => {
+            let spread = *random.pick(&malformed::LONG_BASIS_POINTS);
+            plain_spread("4", spread)
+        }
         13 => full
             .with(7, "2030-01-02")
             .with(8, "2030-01-01")
@@ -280,7 +287,7 @@ fn an_event_time_broken() {
     breaks_only(Premise::EventTime, &first, &ending_with(later));
 }
 
-/// Public elements of a package and another value for each.
+/// Public elements of a package with a price, and another value for each.
 const PUBLIC: [(u8, &str); 15] = [
     (6, "2024-03-01T10:15:29Z"),
     (7, "2024-03-05"),
@@ -299,14 +306,64 @@ const PUBLIC: [(u8, &str); 15] = [
     (25, "FX"),
 ];
 
+/// Public elements of a package with a spread, and other values for them.
+const PUBLIC_OF_SPREAD: [(u8, &str); 6] = [
+    (15, "False"),
+    (26, "13"),
+    (26, "-12"),
+    (27, "3"),
+    (27, "4"),
+    (28, "EUR"),
+];
+
+/// Each change of a package breaks the premise of masked terms and no other.
+fn each_breaks_terms(package: &Message, changes: &[(u8, &str)]) {
+    let package = package.with(1, swap(3).value(1));
+    let first = ending_with(package.clone());
+    for (code, value) in changes {
+        let changed = package.with(*code, value);
+        breaks_only(Premise::Terms, &first, &ending_with(changed));
+    }
+}
+
 #[test]
 fn masked_terms_broken() {
     let mut package = plain_package("1", "12.5");
     package.set(10, "N").set(11, "True").set(22, "US");
-    for (code, value) in PUBLIC {
-        let first = ending_with(package.with(1, swap(3).value(1)));
-        let changed = package.with(1, swap(3).value(1)).with(code, value);
-        breaks_only(Premise::Terms, &first, &ending_with(changed));
+    each_breaks_terms(&package, &PUBLIC);
+    each_breaks_terms(&plain_spread("1", "12"), &PUBLIC_OF_SPREAD);
+}
+
+#[test]
+fn price_and_spread_are_told_apart() {
+    let [price, spread] = [plain_package("1", "12"), plain_spread("1", "12")]
+        .map(|package| ending_with(package.with(1, swap(3).value(1))));
+    breaks_only(Premise::Terms, &price, &spread);
+}
+
+/// Messages with a spread, without one or with a price, and what may be sent
+/// besides since it is left out.
+#[test]
+fn what_is_left_out_is_not_public() {
+    let no_package = [(17, "5"), (18, "3"), (26, "1.5"), (27, "4"), (28, "EUR")];
+    let left_out: [(Message, &[(u8, &str)]); 4] = [
+        (swap(3), &no_package),
+        (plain_package("1", "12"), &[(27, "1"), (28, "EUR")]),
+        (plain_spread("1", "12"), &[(18, "1"), (19, "EUR")]),
+        (
+            plain_spread("4", "12").without(28),
+            &[(18, "3"), (28, "EUR")],
+        ),
+    ];
+    for (message, more) in left_out {
+        let message = message.with(1, swap(3).value(1));
+        let mut whole = message.clone();
+        for (code, value) in more {
+            whole.set(*code, value);
+        }
+        let histories = [message, whole].map(ending_with);
+        let due = (Vec::new(), false);
+        assert_eq!(compare_histories(&histories[0], &histories[1]), due);
     }
 }
 
@@ -404,7 +461,8 @@ fn random_histories_with_one_public_change() {
     assert!(tried > 50);
 }
 
-/// Changes the event time or the currency of one accepted message.
+/// Changes the event time, the currency, or price or spread of one accepted
+/// message.
 fn change_one(
     random: &mut Random,
     verdicts: &[u8],
@@ -417,7 +475,8 @@ fn change_one(
         return None;
     }
     let (code, value, premise) = if matrix::is_full(&action) && random.once_in(2) {
-        (21, values::currency(random), Premise::Terms)
+        let (code, value) = change_of_terms(random, &message);
+        (code, value, Premise::Terms)
     } else {
         (4, values::time(random), Premise::EventTime)
     };
@@ -426,4 +485,17 @@ fn change_one(
     }
     history.calls[place].message = message.with(code, value).encode();
     Some((place, premise))
+}
+
+/// Another price or spread where there is one, or a currency.
+fn change_of_terms(random: &mut Random, message: &Message) -> (u8, Vec<u8>) {
+    match QUOTES.iter().find(|quote| is_quoted_by(message, quote)) {
+        // Any notation allows one digit.
+        Some(quote) if random.once_in(2) => {
+            let shown = shown_price(message.value(quote.number));
+            let other = if shown == b"7" { b"8" } else { b"7" };
+            (quote.number, other.to_vec())
+        }
+        _ => (21, values::currency(random)),
+    }
 }

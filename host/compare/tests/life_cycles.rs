@@ -172,7 +172,7 @@ fn life_cycles_on_ledgers_of_several_sizes() {
 }
 
 #[test]
-fn a_ledger_of_400_rows_fills_up() {
+fn a_ledger_of_a_day_fills_up() {
     let mut random = Random::for_test(20_240_302);
     let mut met = Met::default();
     let mut ledger = Ledger::open(&mut random, ledger_size(DAY_ROWS), DAY_ROWS + 30);

@@ -3,11 +3,12 @@
 
 use compare::compared::Compared;
 use compare::layout::*;
-use compare::lists::{ACTIONS, CLASSES, EVENTS, LAST_CODE};
+use compare::lists::{ACTIONS, CLASSES, EVENTS, LAST_CODE, PRICE_NOTATIONS, SPREAD_NOTATIONS};
 use compare::matrix::{is_pair, status_after};
 use compare::message::Message;
 use compare::order;
-use compare::sound::{plain_new, plain_package, plain_short};
+use compare::sound::{plain_new, plain_package, plain_short, plain_spread};
+use compare::terms::is_true;
 use std::fs;
 use std::ops::Range;
 use std::path::Path;
@@ -26,8 +27,13 @@ fn from(opening: &str) -> Vec<String> {
 
 /// The number of bytes that the line with this opening says.
 fn size(opening: &str) -> usize {
+    number_before(opening, " bytes")
+}
+
+/// The number before this word in the line with this opening.
+fn number_before(opening: &str, word: &str) -> usize {
     let line = &from(opening)[0];
-    let before = line.split_once(" bytes").expect("a number of bytes").0;
+    let before = line.split_once(word).expect("a number and a word").0;
     let (_, digits) = before.rsplit_once(' ').expect("a number");
     number(digits) as usize
 }
@@ -91,13 +97,16 @@ fn the_masked_terms() {
         LARGE_IN_LINE,
         PACKAGE_IN_LINE,
         PRICE_IN_LINE,
-        NOTATION_IN_LINE,
+        PRICE_NOTATION_IN_LINE,
         PRICE_CURRENCY_IN_LINE,
         CLASS_IN_LINE,
         NOTIONAL_IN_LINE,
         PLUS_IN_LINE,
         NOTIONAL_CURRENCY_IN_LINE,
         LOCATION_IN_LINE,
+        SPREAD_IN_LINE,
+        SPREAD_NOTATION_IN_LINE,
+        SPREAD_CURRENCY_IN_LINE,
     ];
     assert_eq!(fields("**7.2**"), terms);
 }
@@ -134,6 +143,9 @@ fn a_row() {
 fn lengths() {
     assert_eq!(size("**2.6**"), LONGEST_MESSAGE);
     assert_eq!(size("**8.2**"), SHORTEST_LEDGER);
+    let codes = number_before("**2.1**", ", the number of known codes");
+    assert_eq!(codes, usize::from(LAST_CODE));
+    assert_eq!(number_before("**11.1**", " rows"), DAY_ROWS);
 }
 
 #[test]
@@ -261,28 +273,93 @@ fn the_message_of_the_example() {
     assert_eq!((answer.verdict, answer.element), (15, 0));
 }
 
+/// The code and the column needed of each element.
+fn elements() -> Vec<(u8, String)> {
+    let rows = table("## 3 Elements");
+    let element = |row: &Vec<String>| (number(&row[0]) as u8, row[4].clone());
+    let elements: Vec<(u8, String)> = rows.iter().map(element).collect();
+    assert!(elements.iter().map(|(code, _)| *code).eq(1..=LAST_CODE));
+    elements
+}
+
+/// What is answered where a needed element is missing.
+fn missing(code: u8, needed: &str) -> Option<(u8, u8)> {
+    match needed {
+        "all" | "full" if code != 2 => Some((7, code)),
+        "all" => Some((6, 2)),
+        "by the matrix" => Some((10, 0)),
+        _ => None,
+    }
+}
+
+/// Whether each part of a condition, as of "if 15 is true and 17 is there",
+/// holds; no condition does not.
+fn holds(message: &Message, needed: &str) -> bool {
+    let Some(condition) = needed.strip_prefix("if ") else {
+        assert!(["all", "full", "by the matrix", "no"].contains(&needed));
+        return false;
+    };
+    let condition = condition.replace(" and ", ", ");
+    condition.split(", ").all(|part| {
+        let (code, is) = part.split_once(" is ").expect("a part of a condition");
+        let code = number(code) as u8;
+        match is {
+            "there" => message.has(code),
+            "missing" => !message.has(code),
+            "true" => is_true(message.value(code)),
+            value => message.value(code) == value.as_bytes(),
+        }
+    })
+}
+
+/// What the conditions of the column needed say of a message.
+fn by_conditions(elements: &[(u8, String)], message: &Message) -> (u8, u8) {
+    let at_fault = |(code, needed): &&(u8, String)| !message.has(*code) && holds(message, needed);
+    let lowest = elements.iter().find(at_fault);
+    lowest.map_or((0, 0), |(code, _)| (11, *code))
+}
+
+/// Packages of every quote and notation, and a message that is none, with and
+/// without elements that are left out.
+fn full_messages() -> Vec<Message> {
+    let prices = PRICE_NOTATIONS.map(|notation| plain_package(notation, "2"));
+    let spreads = SPREAD_NOTATIONS.map(|notation| plain_spread(notation, "2"));
+    let whole = plain_package("1", "2").with(15, "False").with(27, "1");
+    let plain = [plain_new(), plain_new().with(26, "2"), whole.with(26, "2")];
+    let spread_beside = plain_spread("1", "2").with(18, "1");
+    let price_beside = plain_package("1", "2").with(27, "1");
+    let messages = prices.into_iter().chain(spreads).chain(plain);
+    let messages = messages.chain([spread_beside, price_beside]);
+    messages
+        .flat_map(|message| {
+            let not_cleared = message.with(10, "N").with(11, "True");
+            [message, not_cleared]
+        })
+        .collect()
+}
+
 /// The column needed: what is answered where the element is missing.
 #[test]
 fn the_elements() {
-    let rows = table("## 3 Elements");
-    assert_eq!(rows.len(), usize::from(LAST_CODE));
-    let package = plain_package("1", "2.5").with(10, "N").with(11, "True");
+    let elements = elements();
     let short = plain_short("TERM", Some("ETRM"));
-    for (row, code) in rows.iter().zip(1..) {
-        assert_eq!(number(&row[0]), u64::from(code));
-        let full = match row[4].as_str() {
-            "all" | "full" if code != 2 => (7, code),
-            "all" => (6, 2),
-            "by the matrix" => (10, 0),
-            "no" => (0, 0),
-            condition => {
-                assert!(condition.starts_with("if "), "{condition}");
-                (11, code)
-            }
-        };
-        assert_eq!(judged(&package.without(code)), full, "{row:?}");
-        let missed = ["all", "by the matrix"].contains(&row[4].as_str());
-        let brief = if missed { full } else { (15, 0) };
-        assert_eq!(judged(&short.without(code)), brief, "{row:?}");
+    let mut met = Vec::new();
+    for (code, needed) in &elements {
+        for message in full_messages() {
+            let left = message.without(*code);
+            let due = missing(*code, needed).unwrap_or_else(|| by_conditions(&elements, &left));
+            assert_eq!(judged(&message), (0, 0), "{message:?}");
+            assert_eq!(judged(&left), due, "{left:?}");
+            met.push(due);
+        }
+        let brief = missing(*code, needed).filter(|_| needed != "full");
+        let due = brief.unwrap_or((15, 0));
+        assert_eq!(judged(&short.without(*code)), due, "{code}");
+    }
+    let conditional = elements
+        .iter()
+        .filter(|(_, needed)| needed.starts_with("if "));
+    for (code, _) in conditional {
+        assert!(met.contains(&(11, *code)), "11 with {code}");
     }
 }

@@ -4,11 +4,12 @@
 
 use compare::compared::Compared;
 use compare::faults::{Case, Fault};
+use compare::layout::SPREAD_IN_LINE;
 use compare::layout::{self, ledger_size, Caps, Header, DAY_CAPS, LINE_SIZE};
 use compare::layout::{NOTIONAL_IN_LINE, NOTIONAL_SIZE, PLUS_IN_LINE, PRICE_IN_LINE, PRICE_SIZE};
 use compare::lists::{ACTIONS, EVENTS};
 use compare::random::Random;
-use compare::sound::{plain_new, plain_package};
+use compare::sound::{plain_new, plain_package, plain_spread};
 use compare::{matrix, order, terms};
 use sdr::Answer;
 use std::collections::BTreeSet;
@@ -123,9 +124,14 @@ fn shown_prices() {
             line.answer.as_bytes(),
             "{price}"
         );
-        let (_, _, tape) = submit(&opened(), &plain_package("1", price).encode());
         let due = format!("{:PRICE_SIZE$}", line.answer);
-        assert_eq!(tape[PRICE_IN_LINE], *due.as_bytes(), "{price}");
+        for (message, field) in [
+            (plain_package("1", price), PRICE_IN_LINE),
+            (plain_spread("1", price), SPREAD_IN_LINE),
+        ] {
+            let (_, _, tape) = submit(&opened(), &message.encode());
+            assert_eq!(tape[field], *due.as_bytes(), "{price}");
+        }
     }
 }
 
@@ -196,7 +202,7 @@ fn submit(ledger: &[u8], message: &[u8]) -> (u8, u8, Vec<u8>) {
 }
 
 /// The words for forms and the codes that have them.
-const FORMS: [(&str, &[u8]); 15] = [
+const FORMS: [(&str, &[u8]); 16] = [
     ("uti", &[1]),
     ("event", &[3]),
     ("time", &[4, 5, 6]),
@@ -205,9 +211,10 @@ const FORMS: [(&str, &[u8]); 15] = [
     ("truth", &[11, 12, 13, 15]),
     ("allocation", &[14]),
     ("package", &[16]),
-    ("price", &[17]),
+    ("price", &[17, 26]),
     ("notation", &[18]),
-    ("currency", &[19, 21]),
+    ("spread-notation", &[27]),
+    ("currency", &[19, 21, 28]),
     ("notional", &[20]),
     ("location", &[22]),
     ("lei", &[23, 24]),
@@ -228,7 +235,11 @@ fn forms_inside_a_message() {
 /// A malformed value gets 9 with its code, a sound one no 9.
 fn try_value(code: u8, line: &Line) {
     let value = value(&line.rest);
-    let message = plain_package("1", "5").with(code, &value).encode();
+    let base = match code {
+        26.. => plain_spread("1", "5"),
+        _ => plain_package("1", "5"),
+    };
+    let message = base.with(code, &value).encode();
     let (verdict, element, _) = submit(&opened(), &message);
     let text = format!("{code} {}", line.rest);
     if value.is_empty() {

@@ -1,6 +1,7 @@
 //! A day's bytes as text. Encoding the text gives the same bytes again.
 
 use crate::messages::{split, Rest};
+use crate::names::ELEMENTS;
 use crate::numbers::u16_at;
 use crate::values::escaped;
 use std::io::{self, Write};
@@ -10,7 +11,7 @@ const BYTES_IN_LINE: usize = 32;
 
 /// A message with more elements than this is shown as elements only if its
 /// header is right.
-const MOST_ODD: usize = 25;
+const MOST_ODD: usize = ELEMENTS.len();
 
 /// Writes any bytes as the text of a day.
 pub fn decode(day: &[u8], out: &mut impl Write) -> io::Result<()> {

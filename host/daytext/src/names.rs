@@ -2,7 +2,7 @@
 //! of include/sdr.h; a test compares them.
 
 /// The words for each verdict, from 0 on.
-pub const VERDICTS: [&str; 19] = [
+pub const VERDICTS: [&str; 20] = [
     "accepted",
     "ledger buffer too short",
     "cap out of bounds or not a rounded amount",
@@ -15,17 +15,18 @@ pub const VERDICTS: [&str; 19] = [
     "value breaks its form",
     "event does not go with action",
     "conditional element missing",
-    "price too long for its notation",
+    "price or spread too long for its notation",
     "dates or times out of order",
     "row of the swap damaged",
     "action not admitted by the swap's status",
     "execution time differs from the swap's",
     "ledger full",
     "identifiers spent",
+    "package with both price and spread",
 ];
 
 /// The name of each element, from code 1 on.
-pub const ELEMENTS: [&str; 25] = [
+pub const ELEMENTS: [&str; 28] = [
     "UTI",
     "action type",
     "event type",
@@ -51,6 +52,9 @@ pub const ELEMENTS: [&str; 25] = [
     "counterparty 1",
     "counterparty 2",
     "asset class",
+    "package spread",
+    "spread notation",
+    "spread currency",
 ];
 
 /// Each action and what it says of the swap.

@@ -20,13 +20,13 @@
 /// The ledger's header.
 pub const HEADER_SIZE: usize = 64;
 /// One swap in the ledger.
-pub const ROW_SIZE: usize = 160;
+pub const ROW_SIZE: usize = 184;
 /// The shortest ledger: a header and one row.
 pub const SHORTEST_LEDGER: usize = HEADER_SIZE + ROW_SIZE;
 /// The most swaps that a ledger holds, however long it is.
 pub const LARGEST_CAPACITY: usize = 100_000;
 /// A line of the tape; the shortest tape buffer.
-pub const LINE_SIZE: usize = 146;
+pub const LINE_SIZE: usize = 170;
 /// The longest message.
 pub const LONGEST_MESSAGE: usize = 2048;
 
@@ -57,7 +57,8 @@ pub const FORM_BROKEN: u8 = 9;
 pub const NOT_A_PAIR: u8 = 10;
 /// A conditional element is missing; the element is the lowest such code.
 pub const CONDITIONAL_MISSING: u8 = 11;
-/// The price of a package with notation 3 is too long.
+/// The price or the spread of a package has more digits than its notation
+/// allows.
 pub const PRICE_TOO_LONG: u8 = 12;
 /// In a full message expiration is before effective, settlement before
 /// expiration, or reporting before execution.
@@ -72,6 +73,8 @@ pub const OTHER_TIME: u8 = 16;
 pub const LEDGER_FULL: u8 = 17;
 /// A line is due and the identifiers are spent.
 pub const IDENTIFIERS_SPENT: u8 = 18;
+/// A package has both price and spread.
+pub const PRICE_AND_SPREAD: u8 = 19;
 
 /// The status of a swap that the ledger does not know.
 pub const UNKNOWN: u8 = 0;

@@ -4,7 +4,7 @@ use std::collections::BTreeMap;
 use std::path::Path;
 
 /// The names and numbers that the wrapper and include/sdr.h have in common.
-const SHARED: [(&str, usize); 29] = [
+const SHARED: [(&str, usize); 30] = [
     ("HEADER_SIZE", sdr::HEADER_SIZE),
     ("ROW_SIZE", sdr::ROW_SIZE),
     ("LARGEST_CAPACITY", sdr::LARGEST_CAPACITY),
@@ -29,6 +29,7 @@ const SHARED: [(&str, usize); 29] = [
     ("OTHER_TIME", sdr::OTHER_TIME as usize),
     ("LEDGER_FULL", sdr::LEDGER_FULL as usize),
     ("IDENTIFIERS_SPENT", sdr::IDENTIFIERS_SPENT as usize),
+    ("PRICE_AND_SPREAD", sdr::PRICE_AND_SPREAD as usize),
     ("UNKNOWN", sdr::UNKNOWN as usize),
     ("LIVE", sdr::LIVE as usize),
     ("CLOSED", sdr::CLOSED as usize),

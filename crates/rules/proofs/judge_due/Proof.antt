@@ -15,7 +15,7 @@ returns c = c .judged-by .ensures ∙ check-stops conditionalMissing _ _ refl (c
 
 returns-2 : tie.Need-returns-2
 unfolding rulesOf findingOf fromRule afterRule
-returns-2 c = c .judge-price .ensures ∙ check-on conditionalMissing _ _ _ refl (c .before .before .before .before .lowest-fault .ensures) (c .before .before .due .given .1)
+returns-2 c = c .judge-quotes .ensures ∙ check-on conditionalMissing _ _ _ refl (c .before .before .before .before .lowest-fault .ensures) (c .before .before .due .given .1)
 
 pub judge-due-spec : {M : Type 1} → statement M
 judge-due-spec =

@@ -79,6 +79,18 @@ pub fn with_package(mut m: Elements, price: &str, notation: &str) -> Elements {
     m
 }
 
+/// Adds a package with a spread: codes 15, 16 and 26 to 28.
+pub fn with_spread(mut m: Elements, spread: &str, notation: &str) -> Elements {
+    set(&mut m, 15, "True");
+    set(&mut m, 16, "Package1");
+    set(&mut m, 26, spread);
+    set(&mut m, 27, notation);
+    if notation == "1" {
+        set(&mut m, 28, "GBP");
+    }
+    m
+}
+
 pub fn set(m: &mut Elements, code: u16, v: &str) {
     m.insert(code, v.as_bytes().to_vec());
 }

@@ -1,6 +1,6 @@
 //! How each rule is broken.
 
-use super::{Case, Damage, Fault, Layout, Order, WrongRow};
+use super::{Case, Damage, Fault, Layout, Order, TooLong, WrongRow};
 use crate::layout::{self, COUNT_SIZE, ENTRY_SIZE, EXECUTION_IN_TERMS, HEADER_SIZE};
 use crate::layout::{IDENTIFIER_LIMIT, LINE_SIZE, LONGEST_MESSAGE, OFFSET_IN_ENTRY, ROW_SIZE};
 use crate::layout::{SHORTEST_LEDGER, U16_SIZE};
@@ -25,7 +25,8 @@ impl Case {
             Fault::FormBroken(code) => self.malform(random, code),
             Fault::NotAPair => self.part_pair(random),
             Fault::ConditionalMissing(code) => self.leave_out(random, code),
-            Fault::PriceTooLong => self.lengthen_price(random),
+            Fault::PriceAndSpread => sound::make_quoted_twice(random, &mut self.message),
+            Fault::PriceTooLong(long) => self.lengthen(random, long),
             Fault::DatesDisordered(order) => self.disorder(order),
             Fault::RowWrong(wrong) => self.spoil_row(wrong),
             Fault::NotAdmitted(status) => self.set_status(random, status),
@@ -91,22 +92,36 @@ impl Case {
     }
 
     fn leave_out(&mut self, random: &mut Random, code: u8) {
-        if code == NON_STANDARDIZED_TERM {
-            self.message.set(CLEARED, NOT_CLEARED);
-        } else {
-            sound::make_package(random, &mut self.message);
-        }
-        if code == PRICE_CURRENCY {
-            self.message.set(PRICE_NOTATION, MONETARY);
+        let message = &mut self.message;
+        match code {
+            NON_STANDARDIZED_TERM => _ = message.set(CLEARED, NOT_CLEARED),
+            PRICE_NOTATION => sound::make_quoted_by(random, message, &PRICE),
+            SPREAD_NOTATION => sound::make_quoted_by(random, message, &SPREAD),
+            PRICE_CURRENCY => self.make_monetary(random, &PRICE),
+            SPREAD_CURRENCY => self.make_monetary(random, &SPREAD),
+            _ => sound::make_package(random, message),
         }
         self.message.remove(code);
+        // A package without a price may have a spread.
+        if code == PACKAGE_PRICE {
+            self.message.remove(PACKAGE_SPREAD);
+        }
     }
 
-    fn lengthen_price(&mut self, random: &mut Random) {
-        sound::make_package(random, &mut self.message);
-        self.message.set(PRICE_NOTATION, DECIMAL);
-        let wrong = malformed::LONG_DECIMAL_PRICES;
-        self.message.set(PACKAGE_PRICE, random.pick(&wrong));
+    fn make_monetary(&mut self, random: &mut Random, quote: &Quote) {
+        sound::make_quoted_by(random, &mut self.message, quote);
+        self.message.set(quote.notation, MONETARY);
+    }
+
+    fn lengthen(&mut self, random: &mut Random, long: TooLong) {
+        let (quote, notation, wrong) = match long {
+            TooLong::DecimalPrice => (PRICE, DECIMAL, &malformed::LONG_DECIMALS[..]),
+            TooLong::DecimalSpread => (SPREAD, DECIMAL, &malformed::LONG_DECIMALS[..]),
+            TooLong::BasisPoints => (SPREAD, BASIS_POINTS, &malformed::LONG_BASIS_POINTS[..]),
+        };
+        sound::make_quoted_by(random, &mut self.message, &quote);
+        self.message.set(quote.notation, notation);
+        self.message.set(quote.number, random.pick(wrong));
     }
 
     fn disorder(&mut self, order: Order) {

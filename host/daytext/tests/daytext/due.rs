@@ -91,6 +91,6 @@ fn a_message_without_due() {
 
 #[test]
 fn a_text_that_breaks_the_form() {
-    is_refused("1 A\ndue 19 0 0\n", 2, "the verdict is not one of 0 to 18");
+    is_refused("1 A\ndue 20 0 0\n", 2, "the verdict is not one of 0 to 19");
     is_refused("1 A\nfoo\n", 2, "`foo` is not a word of the form");
 }

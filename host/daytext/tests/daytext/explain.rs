@@ -66,6 +66,26 @@ fn each_action() {
 }
 
 #[test]
+fn price_and_spread() {
+    let day = day(&[
+        message(&[(1, UTI), (2, b"NEWT"), (3, b"TRAD"), (4, TIME)]),
+        message(&[(1, UTI), (2, b"CORR"), (4, TIME)]),
+        message(&[(1, UTI), (2, b"REVI"), (4, TIME)]),
+    ]);
+    let report = "message verdict element record\n1 19 0 0\n2 12 0 0\n3 11 28 0\nend 3 0\n";
+    let words = "\
+message 1: swap LEDGERTESTSWAP0000001, action NEWT (a new swap), event TRAD
+  refused (verdict 19): package with both price and spread
+message 2: swap LEDGERTESTSWAP0000001, action CORR (a correction)
+  refused (verdict 12): price or spread too long for its notation
+message 3: swap LEDGERTESTSWAP0000001, action REVI (brought back)
+  refused (verdict 11): conditional element missing; element 28, spread currency
+end: all input was read; messages judged: 3, tape lines published: 0
+";
+    gives(&day, report, words);
+}
+
+#[test]
 fn no_message() {
     gives(
         b"",

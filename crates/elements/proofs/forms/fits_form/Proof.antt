@@ -40,25 +40,30 @@ returns-12 : tie.Need-returns-12
 returns-12 c = rw (c .before .enum-told12 .given .1) (c .is-price-notation .ensures)
 
 returns-13 : tie.Need-returns-13
-returns-13 c = rw (c .before .enum-told13 .given .1) (c .is-currency .ensures)
+returns-13 c = rw (c .before .enum-told13 .given .1) (c .is-spread-notation .ensures)
 
 returns-14 : tie.Need-returns-14
-returns-14 c = rw (c .before .enum-told14 .given .1) (c .is-notional .ensures)
+returns-14 c = rw (c .before .enum-told14 .given .1) (c .is-currency .ensures)
 
 returns-15 : tie.Need-returns-15
-returns-15 c = rw (c .before .enum-told15 .given .1) (c .is-location .ensures)
+returns-15 c = rw (c .before .enum-told15 .given .1) (c .is-notional .ensures)
 
 returns-16 : tie.Need-returns-16
-returns-16 c = rw (c .before .enum-told16 .given .1) (c .is-lei .ensures)
+returns-16 c = rw (c .before .enum-told16 .given .1) (c .is-location .ensures)
 
 returns-17 : tie.Need-returns-17
-returns-17 c = rw (c .before .enum-told17 .given .1) (c .is-asset-class .ensures)
+returns-17 c = rw (c .before .enum-told17 .given .1) (c .is-lei .ensures)
+
+returns-18 : tie.Need-returns-18
+returns-18 c = rw (c .before .enum-told18 .given .1) (c .is-asset-class .ensures)
 
 pub fits-form-spec : {M : Type 1} → statement M
 fits-form-spec =
     tie.close
     (tie.spec
     (λ c. search needs)
+    (λ c. search needs)
+    (λ c κs. search needs)
     (λ c. search needs)
     (λ c κs. search needs)
     (λ c. search needs)
@@ -107,4 +112,5 @@ fits-form-spec =
     returns-14
     returns-15
     returns-16
-    returns-17)
+    returns-17
+    returns-18)

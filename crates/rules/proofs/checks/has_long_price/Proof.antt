@@ -20,7 +20,14 @@ returns c = rw (sym (packaged (c .before .before .before)) ∙ not-true _ (c .if
 
 returns-2 : tie.Need-returns-2
 unfolding hasLongPrice
-returns-2 c = rw (sym (packaged (c .before .before .before .before)) ∙ not-false _ (c .before .if1 .left)) (c .is-long-quote .ensures)
+returns-2 c =
+    rw (sym (packaged (c .before .before .before .before .before)) ∙ not-false _ (c .before .before .if1 .left), sym (c .before .is-long-quote .ensures) ∙ c .if2 .taken)
+
+returns-3 : tie.Need-returns-3
+unfolding hasLongPrice
+returns-3 c =
+    rw (sym (packaged (c .before .before .before .before .before .before)) ∙ not-false _ (c .before .before .before .if1 .left), sym (c .before .before .is-long-quote .ensures) ∙ c .before .if2 .left)
+    (c .is-long-quote2 .ensures)
 
 pub has-long-price-spec : {M : Type 1} → statement M
-has-long-price-spec = tie.close (tie.spec returns (λ c κs. search needs) returns-2)
+has-long-price-spec = tie.close (tie.spec returns (λ c κs. search needs) returns-2 (λ c κs. search needs) returns-3)
