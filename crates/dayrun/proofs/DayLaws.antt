@@ -14,6 +14,7 @@ use lib.Dec.{eqb, leb}
 use Rattle.octets.specs.Bytes.{Bytes}
 use Rattle.octets.specs.Choice.{choose}
 use Rattle.octets.specs.Part.{part}
+use Rattle.octets.proofs.ChoiceLaws.{not-true-false}
 use Rattle.submission.specs.Opening.{documentLimits}
 use Rattle.submission.specs.Submission.{submitted}
 use Rattle.day.specs.declared.frame.Frame.{Frame}
@@ -91,11 +92,7 @@ step-takes d xs e =
 
 -- where a step takes nothing no message is whole
 pub not-whole-left : (d : Day) (xs : Bytes) → step d xs .taken ≡ 0 → isWhole xs ≡ false
-not-whole-left d xs z = not-true (isWhole xs) (λ e. absurd (omega (arith, z, step-takes d xs e)))
-  where
-    not-true : (b : Bool) → (b ≡ true → ⊥) → b ≡ false
-    not-true true f = absurd (f refl)
-    not-true false f = refl
+not-whole-left d xs z = not-true-false (isWhole xs) (λ e. omega (arith, z, step-takes d xs e))
 
 -- and a message is whole where a step takes something
 some-whole : (d : Day) (xs : Bytes) (b : Bool) → isWhole xs ≡ b → 0 < step d xs .taken → isWhole xs ≡ true

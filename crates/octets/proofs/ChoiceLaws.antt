@@ -29,6 +29,11 @@ pub not-not : (b : Bool) → not b ≡ false → b ≡ true
 not-not true e = refl
 not-not false e = absurd (false≢true (sym e))
 
+-- a test that cannot pass
+pub not-true-false : (b : Bool) → (b ≡ true → ⊥) → b ≡ false
+not-true-false true h = absurd (h refl)
+not-true-false false h = refl
+
 -- two tests are equal if each passes where the other does
 pub same-test : (a b : Bool) → (a ≡ true → b ≡ true) → (b ≡ true → a ≡ true) → a ≡ b
 same-test true b f g = sym (f refl)

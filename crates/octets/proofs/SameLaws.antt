@@ -15,7 +15,7 @@ use Rattle.octets.specs.Choice.{choose, both}
 use Rattle.octets.specs.Search.{firstFrom}
 use Rattle.octets.specs.Part.{part}
 use Rattle.octets.specs.Text.{text}
-use Rattle.octets.proofs.ChoiceLaws.{both-first, both-second}
+use Rattle.octets.proofs.ChoiceLaws.{both-first, both-second, not-true-false}
 use Rattle.octets.specs.Same.{sameBytes, placeAmong, place, oneOf, lookUp}
 
 -- ---- the test tells equality
@@ -47,10 +47,6 @@ same-true [] [] h = refl
 same-true [] (y ∷ ys) h = cc
 same-true (x ∷ xs) [] h = cc
 same-true (x ∷ xs) (y ∷ ys) h = same-cons x y xs ys (eqb x y) refl (same-true xs ys) h
-
-not-true-false : (t : Bool) → (t ≡ true → ⊥) → t ≡ false
-not-true-false true h = absurd (h refl)
-not-true-false false h = refl
 
 pub same-false : (xs ys : Bytes) → (xs ≡ ys → ⊥) → sameBytes xs ys ≡ false
 same-false xs ys h = not-true-false (sameBytes xs ys) (λ t. h (same-true xs ys t))
