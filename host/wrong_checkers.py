@@ -62,6 +62,11 @@ WRONG = [
     ("the minus of zero is kept", "price.rs", "v.starts_with(b\"-\") && !is_zero", "v.starts_with(b\"-\")"),
     ("29 February 1900", "forms.rs", "(_, 0, _) => false,", "(_, 0, _) => year == 1900,"),
     ("any LEI remainder", "forms.rs", "    left == 1\n", "    left < 97\n"),
+    ("CNH is a currency", "lists.rs", "is_listed(v, CURRENCIES)", "v == b\"CNH\" || is_listed(v, CURRENCIES)"),
+    ("any three capitals are a currency", "lists.rs", "is_listed(v, CURRENCIES)", "v.len() == CURRENCY && v.iter().all(u8::is_ascii_uppercase)"),
+    ("any two capitals are a location", "lists.rs", "is_listed(v, LOCATIONS)", "v.len() == LOCATION && v.iter().all(u8::is_ascii_uppercase)"),
+    ("the last code of a list is missing", "lists.rs", "lines.binary_search_by", "lines[..lines.len() - 1].binary_search_by"),
+    ("a currency that is left out is not looked up", "rules.rs", "!has_form(code, v)", "!has_form(code, v) && (!matches!(code, 19 | 28) || is_due(code, values) || v.len() != 3 || !v.iter().all(u8::is_ascii_uppercase))"),
     ("an offset at the end", "message.rs", "next_start >= message.len()", "next_start > message.len()"),
     ("NEWT with ETRM", "matrix.rs", "(b\"NEWT\", Some(b\"UPDT\"))", "(b\"NEWT\", Some(b\"ETRM\"))"),
     ("a day of one row less", "day.rs", "sizes::ledger_size(DAY_ROWS)", "sizes::ledger_size(DAY_ROWS - 1)"),
@@ -95,7 +100,7 @@ def copied(top):
     (top / "target").mkdir()
     for name in ("staticlib", "bin"):
         (top / "target" / name).symlink_to(HOST.parent / "target" / name)
-    for name in ("include", VECTORS, "crates/dayrun", "days", "docs"):
+    for name in ("include", "data", VECTORS, "crates/dayrun", "days", "docs"):
         shutil.copytree(HOST.parent / name, top / name)
     return shutil.copytree(HOST, top / "host", ignore=shutil.ignore_patterns("target"))
 

@@ -83,6 +83,7 @@ extern "C" {
  * take the elements 1 to 5 and no others.
  *
  * A date is YYYY-MM-DD, from the year 1900 on. A time is a date, T, hh:mm:ss and Z. A truth is True, False, true or false.
+ * A currency is an alphabetic code of ISO 4217, a location an assigned two-letter code of ISO 3166-1, both as of 1 July 2024.
  */
 
 #define SDR_LAST_CODE 28 /* the codes are 1 up to this */
@@ -107,16 +108,16 @@ enum sdr_element_code {
     SDR_PACKAGE_PRICE = 17,           /* if 15 is true and 26 is missing; number, minus allowed,
                                          18 digits, 13 after the point */
     SDR_PRICE_NOTATION = 18,          /* if 15 is true and 17 is there; 1 or 3 */
-    SDR_PRICE_CURRENCY = 19,          /* if 15 is true, 17 is there and 18 is 1; 3 capitals */
+    SDR_PRICE_CURRENCY = 19,          /* if 15 is true, 17 is there and 18 is 1; currency */
     SDR_NOTIONAL_AMOUNT = 20,         /* full; number, no minus, 25 digits, 5 after the point */
-    SDR_NOTIONAL_CURRENCY = 21,       /* full; 3 capitals */
-    SDR_SETTLEMENT_LOCATION = 22,     /* optional; 2 capitals */
+    SDR_NOTIONAL_CURRENCY = 21,       /* full; currency */
+    SDR_SETTLEMENT_LOCATION = 22,     /* optional; location */
     SDR_COUNTERPARTY_1 = 23,          /* full; LEI with right check digits */
     SDR_COUNTERPARTY_2 = 24,          /* full; LEI with right check digits */
     SDR_ASSET_CLASS = 25,             /* full; CR, IR, FX, EQ or CO; says which cap applies */
     SDR_PACKAGE_SPREAD = 26,          /* optional; of 17's form; a package has 17 or 26 */
     SDR_SPREAD_NOTATION = 27,         /* if 15 is true and 26 is there; 1, 3 or 4 */
-    SDR_SPREAD_CURRENCY = 28          /* if 15 is true, 26 is there and 27 is 1; 3 capitals */
+    SDR_SPREAD_CURRENCY = 28          /* if 15 is true, 26 is there and 27 is 1; currency */
 };
 
 /* ---- Verdicts (section 9) ----

@@ -10,7 +10,7 @@ declare -A needed_for=(
     [cargo]='the Rust hosts, daytext and the bench'
     [gcc]='the C host'
     [g++]='the C header as C++'
-    [python3]='the scripts about imports and PROMISES.md'
+    [python3]='the scripts about imports, code lists and PROMISES.md'
     [valgrind]='counting instructions'
 )
 

@@ -65,6 +65,8 @@ CITED = {
     ],
     "repository::sdr_status": ["Question-demands", "Question-answers", "Question-exactly", "Number-carries"],
     "message::layout::layout_right": ["Layout-laws", "Values-whole", "Value-filled", "Value-found"],
+    "iso::is_currency": ["Currency-capitals"],
+    "iso::is_location": ["Location-capitals"],
     "dates::is_before": ["Date-order", "Time-order"],
     "notional::mask": ["Masking-laws", "Examples-shown", "Nearest-step", "Least-shown", "Rounded-again", "Shown-within"],
     "price::write_price": ["Price-laws", "Prices-shown", "Price-fits"],
@@ -98,7 +100,7 @@ SPECIFICATION = pathlib.Path("docs/SPECIFICATION.md")
 CLAUSE = r"\*\*(\d+\.\d+|Verdict \d+)\*\*"
 ENTRY = r"- (\d+\.\d+|Verdict \d+) (?=\S)"
 
-DOCUMENTS = ["*.md", "docs/**/*.md", "host/**/*.md", "days/*.md", "bench/*.md"]
+DOCUMENTS = ["*.md", "docs/**/*.md", "data/*.md", "host/**/*.md", "days/*.md", "bench/*.md"]
 LONGEST_LINE = 160
 
 

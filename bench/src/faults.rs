@@ -92,7 +92,7 @@ fn form_broken(number: usize, message: &Message) -> Message {
         0 => message.with(20, "1,250,000"),
         1 => message.with(7, "2026-02-30"),
         2 => message.with(24, "549300NOTANLEINUMB99"),
-        _ => message.with(21, "usd"),
+        _ => message.with(21, "CNH"),
     }
 }
 

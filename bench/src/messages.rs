@@ -1,5 +1,6 @@
 //! Sound messages: those that break none of the rules 5 to 13, nor 19.
 
+use compare::codes::{CURRENCIES, LOCATIONS};
 use compare::lists::TRUTHS;
 use compare::matrix::{events_of, is_full};
 use compare::message::Message;
@@ -12,7 +13,6 @@ const TODAY: usize = 30;
 /// Trading ends before this hour, reporting begins with it.
 const EVENING: usize = 16;
 
-const CURRENCIES: [&str; 4] = ["USD", "EUR", "GBP", "CAD"];
 const CLASSES: [&str; 8] = ["CR", "IR", "IR", "FX", "EQ", "CO", "CO", "CO"];
 
 /// A sound message of an action about a swap that was executed at this time.
@@ -84,7 +84,7 @@ fn set_terms(random: &mut Random, message: &mut Message) {
     message.set(20, amount(random));
     message.set(21, random.pick(&CURRENCIES));
     if random.once_in(2) {
-        message.set(22, random.pick(&["US", "GB", "DE"]));
+        message.set(22, random.pick(&LOCATIONS));
     }
     message.set(23, lei(random));
     message.set(24, lei(random));

@@ -202,7 +202,7 @@ static void first_swap_ends(void)
     ask(FIRST);
 }
 
-/* ---- The second swap: a package, sent wrong three times, accepted, given a spread in place of its price, then ported ---- */
+/* ---- The second swap: a package, sent wrong four times, accepted, given a spread in place of its price, then ported ---- */
 
 static struct report package(void)
 {
@@ -231,6 +231,9 @@ static void second_swap(void)
     report = package();
     report.value[SDR_COUNTERPARTY_1] = "EXAMPLECOOP000000167";
     submit(&report); /* 9, element 23: wrong check digits */
+    report = package();
+    report.value[SDR_NOTIONAL_CURRENCY] = "CNH";
+    submit(&report); /* 9, element 21: no code of ISO 4217; offshore yuan are CNY with the settlement location HK */
     report = package();
     report.value[SDR_EXPIRATION_DATE] = "2025-03-04";
     submit(&report); /* 13: it would end before it starts */

@@ -2,9 +2,10 @@
 use Prim.Native.Nat.{ℕ}
 use mathlib.Core.Bool.{Bool, true, false}
 use Rattle.octets.specs.Bytes.{Bytes}
-use Rattle.values.specs.Run.{isUti, isEvent, isPackageIdentifier, isCurrency, isLocation}
+use Rattle.values.specs.Run.{isUti, isEvent, isPackageIdentifier}
 use Rattle.values.specs.Code.{isTruth, isCleared, isAllocation, isPriceNotation, isSpreadNotation, isAssetClass}
 use Rattle.values.specs.Lei.{isLei}
+use Rattle.iso.specs.Codes.{isCurrency, isLocation}
 use Rattle.numbers.specs.Numbers.{isPrice, isNotional}
 use Rattle.dates.specs.Dates.{isDate, isTime}
 use Rattle.actions.specs.Actions.{actionOf}

@@ -34,9 +34,9 @@ fn fits_form(form: Form, v: &[u8]) -> bool
         Form::Price => numbers::is_price(v),
         Form::PriceNotation => values::is_price_notation(v),
         Form::SpreadNotation => values::is_spread_notation(v),
-        Form::Currency => values::is_currency(v),
+        Form::Currency => iso::is_currency(v),
         Form::Notional => numbers::is_notional(v),
-        Form::Location => values::is_location(v),
+        Form::Location => iso::is_location(v),
         Form::Lei => values::is_lei(v),
         Form::AssetClass => values::is_asset_class(v),
     }

@@ -7,7 +7,7 @@ use lib.Dec.{leb}
 use Rattle.octets.specs.Bytes.{Bytes}
 use Rattle.octets.specs.Choice.{both, either}
 use Rattle.octets.specs.Search.{all}
-use Rattle.values.specs.Limits.{utiLeast, utiMost, eventSize, packageMost, currencySize, locationSize}
+use Rattle.values.specs.Limits.{utiLeast, utiMost, eventSize, packageMost}
 use Rattle.values.specs.declared.run.Class.{Class}
 use Rattle.values.specs.declared.run.Class.the-variants.{Digit, Capital, CapitalOrDigit, LetterOrDigit}
 
@@ -39,11 +39,3 @@ isEvent v = runOf eventSize eventSize Capital v
 -- code 16: 1 to 100 letters or digits
 abbrev pub isPackageIdentifier : Bytes → Bool
 isPackageIdentifier v = runOf 1 packageMost LetterOrDigit v
-
--- codes 19 and 21: 3 capitals
-abbrev pub isCurrency : Bytes → Bool
-isCurrency v = runOf currencySize currencySize Capital v
-
--- code 22: 2 capitals
-abbrev pub isLocation : Bytes → Bool
-isLocation v = runOf locationSize locationSize Capital v

@@ -1,9 +1,7 @@
 // Runs of characters of one class.
 ghost use mathlib.Core.Path.{_≡_};
-ghost use Rattle.values.specs.Run.{within, inClass, runOf, isUti, isEvent, isPackageIdentifier, isCurrency, isLocation};
-use crate::limits::CURRENCY_SIZE;
+ghost use Rattle.values.specs.Run.{within, inClass, runOf, isUti, isEvent, isPackageIdentifier};
 use crate::limits::EVENT_SIZE;
-use crate::limits::LOCATION_SIZE;
 use crate::limits::PACKAGE_MOST;
 use crate::limits::UTI_LEAST;
 use crate::limits::UTI_MOST;
@@ -85,16 +83,4 @@ pub fn is_package_identifier(v: &[u8]) -> bool
     ensures { λ r. ⌜ r ≡ isPackageIdentifier (now (v .entry)) ⌝ }
 {
     run_of(1, PACKAGE_MOST, Class::LetterOrDigit, v)
-}
-
-pub fn is_currency(v: &[u8]) -> bool
-    ensures { λ r. ⌜ r ≡ isCurrency (now (v .entry)) ⌝ }
-{
-    run_of(CURRENCY_SIZE, CURRENCY_SIZE, Class::Capital, v)
-}
-
-pub fn is_location(v: &[u8]) -> bool
-    ensures { λ r. ⌜ r ≡ isLocation (now (v .entry)) ⌝ }
-{
-    run_of(LOCATION_SIZE, LOCATION_SIZE, Class::Capital, v)
 }

@@ -9,6 +9,8 @@ use Rattle.octets.specs.Text.{text}
 use Rattle.values.specs.Code.{isTrue, isFalse, isTruth, isCleared, isAllocation, isPriceNotation, isSpreadNotation, isAssetClass}
 use Rattle.values.specs.Lei.{weight, number, grow, spell, isLei}
 use Rattle.values.specs.Run.{runOf}
+use Rattle.iso.specs.Codes.{isCurrency, isLocation}
+use Rattle.iso.specs.Lists.{iso4217, iso3166}
 use Rattle.numbers.specs.Numbers.{pointIn, wholeOf, decimalsOf, isNumber, unsignedOf, isPrice}
 use Rattle.dates.specs.Dates.{fitsPattern, twoDigits, leap, daysIn, gregorian, namesDate, isDate, isTime, before}
 use Rattle.message.specs.Layout.{u16At, entryRight, layoutRight}
@@ -44,7 +46,7 @@ unfolding field bytesOf fromLe toLe digits splice sameBytes place oneOf lookUp f
 bytes = tt
 
 forms : Unit {0}
-unfolding isTrue isFalse isTruth isCleared isAllocation isPriceNotation isSpreadNotation isAssetClass weight number grow spell isLei runOf pointIn wholeOf decimalsOf isNumber unsignedOf isPrice fitsPattern twoDigits leap daysIn gregorian namesDate isDate isTime before
+unfolding isTrue isFalse isTruth isCleared isAllocation isPriceNotation isSpreadNotation isAssetClass iso4217 iso3166 isCurrency isLocation weight number grow spell isLei runOf pointIn wholeOf decimalsOf isNumber unsignedOf isPrice fitsPattern twoDigits leap daysIn gregorian namesDate isDate isTime before
 forms = tt
 
 reading : Unit {0}

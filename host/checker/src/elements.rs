@@ -1,10 +1,11 @@
 //! Section 3, elements: the table of codes; and the seven actions.
 
 use crate::forms::{
-    is_allocation, is_asset_class, is_capitals, is_cleared, is_date, is_lei, is_notional,
+    is_allocation, is_asset_class, is_cleared, is_date, is_event, is_lei, is_notional,
     is_package_identifier, is_price, is_price_notation, is_spread_notation, is_time, is_true,
     is_truth, is_uti,
 };
+use crate::lists::{is_currency, is_location};
 use crate::message::Values;
 
 /// Codes run from 1 to this.
@@ -111,7 +112,7 @@ pub fn has_form(code: u16, v: &[u8]) -> bool {
     match code {
         UTI => is_uti(v),
         ACTION_TYPE => Action::read(v).is_some(),
-        EVENT_TYPE => is_capitals(v, 4),
+        EVENT_TYPE => is_event(v),
         EVENT_TIMESTAMP | REPORTING_TIMESTAMP | EXECUTION_TIMESTAMP => is_time(v),
         EFFECTIVE_DATE | EXPIRATION_DATE | SETTLEMENT_DATE => is_date(v),
         CLEARED => is_cleared(v),
@@ -123,9 +124,9 @@ pub fn has_form(code: u16, v: &[u8]) -> bool {
         PACKAGE_PRICE | PACKAGE_SPREAD => is_price(v),
         PRICE_NOTATION => is_price_notation(v),
         SPREAD_NOTATION => is_spread_notation(v),
-        PRICE_CURRENCY | NOTIONAL_CURRENCY | SPREAD_CURRENCY => is_capitals(v, 3),
+        PRICE_CURRENCY | NOTIONAL_CURRENCY | SPREAD_CURRENCY => is_currency(v),
         NOTIONAL_AMOUNT => is_notional(v),
-        SETTLEMENT_LOCATION => is_capitals(v, 2),
+        SETTLEMENT_LOCATION => is_location(v),
         COUNTERPARTY_1 | COUNTERPARTY_2 => is_lei(v),
         ASSET_CLASS => is_asset_class(v),
         _ => false,

@@ -1,10 +1,16 @@
-//! Section 4: the forms of values. Text is ASCII.
+//! Section 4: the forms of values. Text is ASCII. Currencies and locations are
+//! in lists.rs.
 
-use crate::sizes::{DATE, UTI};
+use crate::sizes::{DATE, UTI, WORD};
 
 /// Code 1: 21 to 52 capitals or digits.
 pub fn is_uti(v: &[u8]) -> bool {
     (21..=UTI).contains(&v.len()) && v.iter().all(|&b| is_capital_or_digit(b))
+}
+
+/// Code 3: 4 capitals.
+pub fn is_event(v: &[u8]) -> bool {
+    v.len() == WORD && v.iter().all(u8::is_ascii_uppercase)
 }
 
 /// Date: YYYY-MM-DD, a Gregorian date, years 1900 to 9999.
@@ -142,11 +148,6 @@ pub fn asset_class_place(v: &[u8]) -> Option<usize> {
         b"CO" => Some(4),
         _ => None,
     }
-}
-
-/// As many capitals as asked: codes 3, 19, 21, 22 and 28.
-pub fn is_capitals(v: &[u8], count: usize) -> bool {
-    v.len() == count && v.iter().all(u8::is_ascii_uppercase)
 }
 
 /// Code 20: Num(25,5), no minus.

@@ -71,6 +71,7 @@ fn leaves_take_any_bytes() {
         let v = numbers.bytes(60);
         let cap = numbers.next() >> numbers.below(64);
         let _ = (is_date(&v), is_time(&v), is_lei(&v), is_uti(&v));
+        let _ = (is_currency(&v), is_location(&v));
         let _ = (price_too_long(&v, b"4"), price_too_long(&v, &v));
         let _ = (is_cap(cap), is_pair(&v, Some(&v)));
         assert_eq!(is_notional(&v), masked(&v, cap).is_some());

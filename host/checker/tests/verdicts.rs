@@ -268,14 +268,17 @@ fn verdict_9_form_broken() {
         (18, "2"),
         (18, "01"),
         (19, "usd"),
+        (19, "CNH"),
         (19, "EURO"),
         (20, "-1"),
         (20, "1.000000"),
         (20, "12345678901234567890123456"),
         (21, "US"),
         (21, "US1"),
+        (21, "CNH"),
         (22, "us"),
         (22, "USA"),
+        (22, "XK"),
         (23, "5493001KJTIIGC8Y1R13"),
         (24, "529900T8BM49AURSDO56"),
         (25, "ir"),
@@ -291,6 +294,7 @@ fn verdict_9_form_broken() {
         (27, "04"),
         (27, "44"),
         (28, "gbp"),
+        (28, "CNH"),
         (28, "GB"),
         (28, "EURO"),
     ] {
@@ -331,7 +335,7 @@ fn verdict_9_form_broken() {
     book.accept(&with(price, 16, &"aZ9".repeat(34)[..100]));
 }
 
-/// The form of 26 is that of 17; 27 is 1, 3 or 4; 28 is 3 capitals.
+/// The form of 26 is that of 17; 27 is 1, 3 or 4; 28 is a currency.
 #[test]
 fn the_forms_of_a_spread() {
     let mut book = Book::new(1);
@@ -350,7 +354,7 @@ fn the_forms_of_a_spread() {
     for notation in ["1", "3", "4"] {
         book.accept(&with_spread(modi(), "5", notation));
     }
-    book.accept(&with(with_spread(modi(), "5", "1"), 28, "AZQ"));
+    book.accept(&with(with_spread(modi(), "5", "1"), 28, "AZN"));
 }
 
 #[test]

@@ -4,9 +4,11 @@
 //! answers and every byte afterwards have to be equal ([`compared`]). What is
 //! submitted comes from generators ([`sound`], [`faults`], [`cycles`]) that
 //! also say which verdict is due. What they know of the specification stands in
-//! [`layout`] (sizes, offsets and limits), [`lists`] and [`order`] (of rules).
+//! [`layout`] (sizes, offsets and limits), [`lists`], [`codes`] (of currencies
+//! and locations) and [`order`] (of rules).
 
 pub mod calls;
+pub mod codes;
 pub mod compared;
 pub mod cycles;
 pub mod dayrun;

@@ -79,6 +79,9 @@ pub const TRUTH_CODES: [u8; 4] = [
     PACKAGE_INDICATOR,
 ];
 
+/// The codes whose value is a currency.
+pub const CURRENCY_CODES: [u8; 3] = [PRICE_CURRENCY, NOTIONAL_CURRENCY, SPREAD_CURRENCY];
+
 /// The element codes, rising.
 pub fn codes() -> impl Iterator<Item = u8> {
     UTI..=LAST_CODE

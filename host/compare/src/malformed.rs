@@ -1,10 +1,21 @@
 //! Values that break the form of their element, and other values that a rule
 //! refuses.
 
+use crate::codes;
 use crate::layout::{DATE_SIZE, LARGEST_CAP, LONGEST_PACKAGE_IDENTIFIER, SHORTEST_UTI};
 use crate::layout::{SMALLEST_CAP, UTI_SIZE};
 use crate::lists::*;
+use crate::random::Random;
 use crate::values::{remainder, CAPITALS};
+
+/// A value that breaks the form of an element. Where the element has a list,
+/// it is often a code of as many capitals.
+pub fn value(random: &mut Random, code: u8) -> Vec<u8> {
+    match codes::list_of(code) {
+        Some(list) if random.once_in(2) => codes::unlisted(random, list),
+        _ => random.pick(&values(code)).clone(),
+    }
+}
 
 /// Values that break the form of an element, at least two for each code.
 pub fn values(code: u8) -> Vec<Vec<u8>> {
@@ -25,11 +36,9 @@ pub fn values(code: u8) -> Vec<Vec<u8>> {
         PACKAGE_PRICE | PACKAGE_SPREAD => prices(),
         PRICE_NOTATION => list(&["2", "0", "4", "11", "1 ", " 3", "I", "-1", "1.0"]),
         SPREAD_NOTATION => list(&["2", "0", "5", "14", "4 ", " 1", "I", "-4", "4.0", "04"]),
-        PRICE_CURRENCY | NOTIONAL_CURRENCY | SPREAD_CURRENCY => {
-            list(&["US", "USDX", "usd", "U5D", "US ", "$", "UsD", "U[D", "@BC"])
-        }
+        PRICE_CURRENCY | NOTIONAL_CURRENCY | SPREAD_CURRENCY => currencies(),
         NOTIONAL_AMOUNT => amounts(),
-        SETTLEMENT_LOCATION => list(&["U", "USA", "us", "U1", "U ", "Us", "[A", "A@"]),
+        SETTLEMENT_LOCATION => locations(),
         COUNTERPARTY_1 | COUNTERPARTY_2 => leis(),
         ASSET_CLASS => list(&["cr", "CRE", "C", "XX", "EQ ", "Fx", "OC", "IR\0", "CRIR"]),
         _ => panic!("no element has code {code}"),
@@ -199,6 +208,23 @@ fn amounts() -> Vec<Vec<u8>> {
     values
 }
 
+/// Values of another length or with other characters, then capitals that are
+/// not in the list: some are in use all the same, some were withdrawn.
+fn currencies() -> Vec<Vec<u8>> {
+    list(&[
+        "$", "US", "USDX", "XUSD", "USDEUR", "usd", "UsD", "cny", "Eur", "U5D", "US ", " US",
+        "USD ", "U[D", "@BC", "USD\n", "US\0", "CNH", "RMB", "GBX", "BTC", "DEM", "HRK", "SLL",
+        "AAA", "ZZZ",
+    ])
+}
+
+fn locations() -> Vec<Vec<u8>> {
+    list(&[
+        "U", "USA", "USD", "USGB", "us", "Us", "uS", "hk", "U1", "U ", " U", "US ", "[A", "A@",
+        "US\n", "U\0", "XK", "UK", "EU", "AN", "SU", "AA", "ZZ",
+    ])
+}
+
 fn leis() -> Vec<Vec<u8>> {
     let sound = b"54930084UKLVMY22DS16";
     let mut values = list(&[
@@ -277,4 +303,32 @@ fn lei_with_letters() -> Vec<u8> {
     let candidates = pairs.map(|pair| [b"54930084UKLVMY22DS".as_slice(), &pair].concat());
     let mut fitting = candidates.filter(|lei| remainder(lei) == 1);
     fitting.next().expect("676 pairs hold each remainder")
+}
+
+#[cfg(test)]
+mod tests {
+    use super::*;
+
+    /// None is in the element's list. Of the random ones, many have as many
+    /// capitals as the codes of the list.
+    #[test]
+    fn malformed_codes_are_in_no_list() {
+        let mut random = Random::for_test(303);
+        for code in [19, 21, 22, 28] {
+            let list = codes::list_of(code).expect("the element has a list");
+            let drawn: Vec<Vec<u8>> = (0..1_000).map(|_| value(&mut random, code)).collect();
+            let malformed = values(code).into_iter().chain(drawn.clone());
+            for value in malformed {
+                assert!(
+                    !list.iter().any(|code| code.as_bytes() == value),
+                    "{value:?}"
+                );
+            }
+            let capitals = |value: &&Vec<u8>| {
+                value.len() == list[0].len() && value.iter().all(u8::is_ascii_uppercase)
+            };
+            let count = drawn.iter().filter(capitals).count();
+            assert!((500..900).contains(&count), "{count}");
+        }
+    }
 }

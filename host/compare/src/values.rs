@@ -1,7 +1,8 @@
 //! Random values that keep their form.
 
-use crate::layout::{Caps, Num, CURRENCY_SIZE, DATE_SIZE, DAY_CAPS, LEI_BODY_SIZE, LINE_SIZE};
-use crate::layout::{LARGEST_CAP, LOCATION_SIZE, LONGEST_PACKAGE_IDENTIFIER, NOTIONAL_NUM};
+use crate::codes::{CURRENCIES, LOCATIONS};
+use crate::layout::{Caps, Num, DATE_SIZE, DAY_CAPS, LARGEST_CAP, LEI_BODY_SIZE, LINE_SIZE};
+use crate::layout::{LONGEST_PACKAGE_IDENTIFIER, NOTIONAL_NUM};
 use crate::layout::{NOTIONAL_SIZE, SHORTEST_UTI, SMALLEST_CAP, UTI_SIZE};
 use crate::lists::{BANDS, CLASSES, LARGEST_STEP};
 use crate::random::Random;
@@ -169,14 +170,14 @@ pub fn time_from(random: &mut Random, earliest: &[u8]) -> Vec<u8> {
     earliest.to_vec()
 }
 
-/// A currency.
+/// A currency of the list.
 pub fn currency(random: &mut Random) -> Vec<u8> {
-    random.text(CURRENCY_SIZE, CAPITALS)
+    random.pick(&CURRENCIES).as_bytes().to_vec()
 }
 
-/// A settlement location.
+/// A settlement location of the list.
 pub fn location(random: &mut Random) -> Vec<u8> {
-    random.text(LOCATION_SIZE, CAPITALS)
+    random.pick(&LOCATIONS).as_bytes().to_vec()
 }
 
 /// A package identifier, often of a length at a bound.

@@ -6,8 +6,9 @@ use compare::cycles::{next_message, Model};
 use compare::histories::{broken_premises, run, Call, History, Premise};
 use compare::layout::{ledger_size, Caps, DAY_CAPS, LINE_SIZE, NEXT_IN_HEADER, PRICE_NUM};
 use compare::layout::{ROW_SIZE, SMALLEST_CAP};
-use compare::lists::{codes, codes_of_full_messages, ACTION_TYPE, ALLOCATIONS, CLASSES, FALSE};
-use compare::lists::{PRICE_NOTATIONS, QUOTES, SPREAD_NOTATIONS, TRUE, TRUTHS, TRUTH_CODES};
+use compare::lists::{codes, codes_of_full_messages, codes_with_a_form, ACTION_TYPE};
+use compare::lists::{ALLOCATIONS, CLASSES, FALSE, PRICE_NOTATIONS, QUOTES, SPREAD_NOTATIONS};
+use compare::lists::{TRUE, TRUTHS, TRUTH_CODES};
 use compare::malformed;
 use compare::message::Message;
 use compare::random::Random;
@@ -164,8 +165,9 @@ fn refused(random: &mut Random, verdict: u8) -> Call {
             short.with(*random.pick(&codes), "value")
         }
         9 => {
-            let code = *random.pick(&[1, 3, 4, 7, 9, 10, 15, 17, 20, 22, 23, 24, 25, 26, 27, 28]);
-            full.with(code, random.pick(&malformed::values(code)))
+            let codes: Vec<u8> = codes_with_a_form().collect();
+            let code = *random.pick(&codes);
+            full.with(code, malformed::value(random, code))
         }
         10 => full.with(3, random.pick(&["ETRM", "CREV", "ABCD"])),
         11 => full.with(10, "N").without(11),

@@ -1,9 +1,11 @@
 //! The tables of docs/SPECIFICATION.md are what core and checker do and what
 //! the tests use.
 
+use compare::codes::{list_of, CURRENCIES, LOCATIONS};
 use compare::compared::Compared;
 use compare::layout::*;
-use compare::lists::{ACTIONS, CLASSES, EVENTS, LAST_CODE, PRICE_NOTATIONS, SPREAD_NOTATIONS};
+use compare::lists::{codes, ACTIONS, CLASSES, EVENTS, LAST_CODE};
+use compare::lists::{PRICE_NOTATIONS, SPREAD_NOTATIONS};
 use compare::matrix::{is_pair, status_after};
 use compare::message::Message;
 use compare::order;
@@ -25,15 +27,17 @@ fn from(opening: &str) -> Vec<String> {
     lines.map(str::to_string).collect()
 }
 
-/// The number of bytes that the line with this opening says.
+/// The number of bytes that the paragraph with this opening says.
 fn size(opening: &str) -> usize {
     number_before(opening, " bytes")
 }
 
-/// The number before this word in the line with this opening.
-fn number_before(opening: &str, word: &str) -> usize {
-    let line = &from(opening)[0];
-    let before = line.split_once(word).expect("a number and a word").0;
+/// The number before these words in the paragraph with this opening.
+fn number_before(opening: &str, words: &str) -> usize {
+    let lines = from(opening);
+    let end = lines.iter().position(|line| line.is_empty());
+    let paragraph = lines[..end.unwrap_or(lines.len())].join(" ");
+    let before = paragraph.split_once(words).expect("a number and words").0;
     let (_, digits) = before.rsplit_once(' ').expect("a number");
     number(digits) as usize
 }
@@ -146,6 +150,26 @@ fn lengths() {
     let codes = number_before("**2.1**", ", the number of known codes");
     assert_eq!(codes, usize::from(LAST_CODE));
     assert_eq!(number_before("**11.1**", " rows"), DAY_ROWS);
+}
+
+/// The lists of currencies and locations are as long as 4.14 says, and the
+/// elements of these two forms are those that have a list.
+#[test]
+fn the_lists_of_codes() {
+    let clause = "**4.14**";
+    assert_eq!(number_before(clause, " alphabetic codes"), CURRENCIES.len());
+    assert_eq!(number_before(clause, " two-letter codes"), LOCATIONS.len());
+    let rows = table("## 3 Elements");
+    for (row, code) in rows.iter().zip(codes()) {
+        let due = match row[3].as_str() {
+            "currency" => Some(CURRENCIES.as_slice()),
+            "location" => Some(LOCATIONS.as_slice()),
+            _ => None,
+        };
+        assert_eq!(number(&row[0]), u64::from(code));
+        assert_eq!(list_of(code), due, "{row:?}");
+    }
+    assert_eq!(rows.len(), usize::from(LAST_CODE));
 }
 
 #[test]

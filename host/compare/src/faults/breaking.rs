@@ -64,7 +64,7 @@ impl Case {
 
     fn add_not_taken(&mut self, random: &mut Random, code: u8) {
         let value = if random.once_in(2) {
-            random.pick(&malformed::values(code)).clone()
+            malformed::value(random, code)
         } else {
             sound_value(random, code)
         };
@@ -72,8 +72,8 @@ impl Case {
     }
 
     fn malform(&mut self, random: &mut Random, code: u8) {
-        let wrong = malformed::values(code);
-        self.message.set(code, random.pick(&wrong));
+        let wrong = malformed::value(random, code);
+        self.message.set(code, wrong);
     }
 
     fn part_pair(&mut self, random: &mut Random) {

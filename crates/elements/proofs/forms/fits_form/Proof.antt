@@ -43,13 +43,13 @@ returns-13 : tie.Need-returns-13
 returns-13 c = rw (c .before .enum-told13 .given .1) (c .is-spread-notation .ensures)
 
 returns-14 : tie.Need-returns-14
-returns-14 c = rw (c .before .enum-told14 .given .1) (c .is-currency .ensures)
+returns-14 c = rw (c .before .enum-told14 .given .1) (c .is-currency .ensures .0)
 
 returns-15 : tie.Need-returns-15
 returns-15 c = rw (c .before .enum-told15 .given .1) (c .is-notional .ensures)
 
 returns-16 : tie.Need-returns-16
-returns-16 c = rw (c .before .enum-told16 .given .1) (c .is-location .ensures)
+returns-16 c = rw (c .before .enum-told16 .given .1) (c .is-location .ensures .0)
 
 returns-17 : tie.Need-returns-17
 returns-17 c = rw (c .before .enum-told17 .given .1) (c .is-lei .ensures)
