@@ -12,7 +12,7 @@ use Rattle.octets.specs.Number.{fromLe, toLe}
 use Rattle.octets.proofs.NumberLaws.{length-toLe, fromLe-toLe}
 use Rattle.octets.proofs.PartLaws.{length-splice, part-at, part-before, part-after, byte-apart}
 use Rattle.actions.specs.declared.Action.{Action}
-use Rattle.actions.specs.Actions.{isNew, writesLine}
+use Rattle.actions.specs.Actions.{isNew}
 use Rattle.ledger.specs.Layout.{u32, u64, rowsAt, nextAt, capsAt, capAt, headerSize, rowSize, rowStart}
 use Rattle.ledger.specs.Header.{rowsInUse, nextIdentifier, capsIn}
 use Rattle.ledger.specs.Rows.{rowAt, withRows, withNext, headerAfter}
@@ -123,11 +123,11 @@ module _ (l : Bytes) (n : ℕ) (room : headerSize ≤ length l) where
 
 -- ---- both are raised, as the action says
 
-module _ (a : Action) (rows next : ℕ) (l : Bytes) (room : headerSize ≤ length l) where
+module _ (a : Action) (due : Bool) (rows next : ℕ) (l : Bytes) (room : headerSize ≤ length l) where
   -- what a function says of a ledger stays where neither write touches it
-  stays : {A : Type 0} (f : Bytes → A) → ((n : ℕ) (d : Bytes) → headerSize ≤ length d → f (withRows n d) ≡ f d) → ((n : ℕ) (d : Bytes) → headerSize ≤ length d → f (withNext n d) ≡ f d) → f (headerAfter a rows next l) ≡ f l
+  stays : {A : Type 0} (f : Bytes → A) → ((n : ℕ) (d : Bytes) → headerSize ≤ length d → f (withRows n d) ≡ f d) → ((n : ℕ) (d : Bytes) → headerSize ≤ length d → f (withNext n d) ≡ f d) → f (headerAfter a due rows next l) ≡ f l
   unfolding headerAfter
-  stays f e g = by (isNew a) (writesLine a)
+  stays f e g = by (isNew a) due
     where
       by : (b c : Bool) → f (choose c (withNext (next + 1) (choose b (withRows (rows + 1) l) l)) (choose b (withRows (rows + 1) l) l)) ≡ f l
       by true true = g (next + 1) (withRows (rows + 1) l) (omega (arith, rows-length l (rows + 1) room)) ∙ e (rows + 1) l room
@@ -135,18 +135,18 @@ module _ (a : Action) (rows next : ℕ) (l : Bytes) (room : headerSize ≤ lengt
       by false true = g (next + 1) l room
       by false false = refl
 
-  pub raised-caps : capsIn (headerAfter a rows next l) ≡ capsIn l
+  pub raised-caps : capsIn (headerAfter a due rows next l) ≡ capsIn l
   raised-caps = stays capsIn (λ n d h. rows-caps d n h) (λ n d h. next-caps d n h)
 
-  pub raised-row : (k : ℕ) → rowAt (headerAfter a rows next l) k ≡ rowAt l k
+  pub raised-row : (k : ℕ) → rowAt (headerAfter a due rows next l) k ≡ rowAt l k
   raised-row k = stays (λ d. rowAt d k) (λ n d h. rows-row d n h k) (λ n d h. next-row d n h k)
 
-  pub raised-length : length (headerAfter a rows next l) ≡ length l
+  pub raised-length : length (headerAfter a due rows next l) ≡ length l
   raised-length = stays length (λ n d h. rows-length d n h) (λ n d h. next-length d n h)
 
-  pub raised-rows : (isNew a ≡ true → rows + 1 < 256 ^ u32) → rowsInUse (headerAfter a rows next l) ≡ choose (isNew a) (rows + 1) (rowsInUse l)
+  pub raised-rows : (isNew a ≡ true → rows + 1 < 256 ^ u32) → rowsInUse (headerAfter a due rows next l) ≡ choose (isNew a) (rows + 1) (rowsInUse l)
   unfolding headerAfter
-  raised-rows fits = by (isNew a) (writesLine a) fits
+  raised-rows fits = by (isNew a) due fits
     where
       by : (b c : Bool) → (b ≡ true → rows + 1 < 256 ^ u32) → rowsInUse (choose c (withNext (next + 1) (choose b (withRows (rows + 1) l) l)) (choose b (withRows (rows + 1) l) l)) ≡ choose b (rows + 1) (rowsInUse l)
       by true true h = next-rows (withRows (rows + 1) l) (next + 1) (omega (arith, rows-length l (rows + 1) room)) ∙ rows-rows l (rows + 1) room (h refl)
@@ -154,9 +154,9 @@ module _ (a : Action) (rows next : ℕ) (l : Bytes) (room : headerSize ≤ lengt
       by false true h = next-rows l (next + 1) room
       by false false h = refl
 
-  pub raised-next : next + 1 < 256 ^ u64 → nextIdentifier (headerAfter a rows next l) ≡ choose (writesLine a) (next + 1) (nextIdentifier l)
+  pub raised-next : next + 1 < 256 ^ u64 → nextIdentifier (headerAfter a due rows next l) ≡ choose due (next + 1) (nextIdentifier l)
   unfolding headerAfter
-  raised-next fits = by (isNew a) (writesLine a)
+  raised-next fits = by (isNew a) due
     where
       by : (b c : Bool) → nextIdentifier (choose c (withNext (next + 1) (choose b (withRows (rows + 1) l) l)) (choose b (withRows (rows + 1) l) l)) ≡ choose c (next + 1) (nextIdentifier l)
       by true true = next-next (withRows (rows + 1) l) (next + 1) (omega (arith, rows-length l (rows + 1) room)) fits
@@ -165,9 +165,9 @@ module _ (a : Action) (rows next : ℕ) (l : Bytes) (room : headerSize ≤ lengt
       by false false = refl
 
   -- a byte that is neither of rows in use, where those are written, nor of the next identifier, where that is
-  pub raised-byte : (i : ℕ) → (isNew a ≡ true → rowsAt ≤ i → rowsAt + u32 ≤ i) → (writesLine a ≡ true → nextAt ≤ i → nextAt + u64 ≤ i) → getD (headerAfter a rows next l) i 0 ≡ getD l i 0
+  pub raised-byte : (i : ℕ) → (isNew a ≡ true → rowsAt ≤ i → rowsAt + u32 ≤ i) → (due ≡ true → nextAt ≤ i → nextAt + u64 ≤ i) → getD (headerAfter a due rows next l) i 0 ≡ getD l i 0
   unfolding headerAfter withRows withNext
-  raised-byte i p q = by (isNew a) (writesLine a) p q
+  raised-byte i p q = by (isNew a) due p q
     where
       counted : (rowsAt ≤ i → rowsAt + u32 ≤ i) → getD (splice l rowsAt (toLe u32 (rows + 1))) i 0 ≡ getD l i 0
       counted h = byte-apart l (toLe u32 (rows + 1)) rowsAt i (rows-fit l (rows + 1) room) (λ b. omega (arith, length-toLe u32 (rows + 1), h b))

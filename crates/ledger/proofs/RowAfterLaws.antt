@@ -14,8 +14,8 @@ use Rattle.octets.proofs.PartLaws.{length-splice}
 use Rattle.octets.proofs.FieldRun.{length-bytes, all-written, field-placed}
 use Rattle.terms.specs.Terms.{termsSize}
 use Rattle.actions.specs.declared.Action.{Action}
-use Rattle.actions.specs.Actions.{isFull, writesLine, isNew}
-use Rattle.actions.proofs.KindLaws.{old-unless-full, line-if-full}
+use Rattle.actions.specs.Actions.{isFull, isNew}
+use Rattle.actions.proofs.KindLaws.{old-unless-full}
 use Rattle.ledger.specs.Layout.{u64, statusAt, identifierAt, termsAt, rowSize}
 use Rattle.ledger.specs.Rows.{rowFields, newRow, withStatus, withIdentifier, withTerms, rowAfter}
 
@@ -48,24 +48,24 @@ length-with-terms terms r long size = length-splice r terms termsAt (omega arith
 
 -- ---- the row after an action
 
--- what holds of each of the four ways to write a row holds of the row after any action; the tests say which actions are full, write a line, are new
+-- what holds of each of the four ways to write a row holds of the row after any action, with a line or without one; the tests say whether the action is full,
+-- a line is due, and the action is new
 pub by-way : (P : Bool → Bool → Bool → Bytes → Type 0) {new changed marked set : Bytes}
     → P true true true new
     → P true true false changed
     → P false true false marked
-    → P false false false set
-    → (a : Action) → P (isFull a) (writesLine a) (isNew a) (choose (isNew a) new (choose (isFull a) changed (choose (writesLine a) marked set)))
-by-way P {new} {changed} {marked} {set} one two three four a = by (isFull a) (writesLine a) (isNew a) (old-unless-full a) (line-if-full a)
+    → ((f n : Bool) → P f false n set)
+    → (a : Action) (due : Bool) → P (isFull a) due (isNew a) (choose due (choose (isNew a) new (choose (isFull a) changed marked)) set)
+by-way P {new} {changed} {marked} {set} one two three four a due = by (isFull a) due (isNew a) (old-unless-full a)
   where
-    by : (f l n : Bool) → (f ≡ false → n ≡ false) → (l ≡ false → f ≡ false) → P f l n (choose n new (choose f changed (choose l marked set)))
-    by true true true old line = one
-    by true true false old line = two
-    by true false n old line = absurd (false≢true (sym (line refl)))
-    by false l true old line = absurd (false≢true (sym (old refl)))
-    by false true false old line = three
-    by false false false old line = four
+    by : (f d n : Bool) → (f ≡ false → n ≡ false) → P f d n (choose d (choose n new (choose f changed marked)) set)
+    by true true true old = one
+    by true true false old = two
+    by false true true old = absurd (false≢true (sym (old refl)))
+    by false true false old = three
+    by f false n old = four f n
 
-pub length-row-after : (a : Action) (status : ℕ) (u : Bytes) (identifier : ℕ) (terms r : Bytes) → length terms ≡ termsSize → length r ≡ rowSize → length (rowAfter a status u identifier terms r) ≡ rowSize
-length-row-after a status u identifier terms r long size =
+pub length-row-after : (a : Action) (due : Bool) (status : ℕ) (u : Bytes) (identifier : ℕ) (terms r : Bytes) → length terms ≡ termsSize → length r ≡ rowSize → length (rowAfter a due status u identifier terms r) ≡ rowSize
+length-row-after a due status u identifier terms r long size =
     let marked : length (withIdentifier identifier (withStatus status r)) ≡ rowSize = length-with-identifier identifier _ (length-with-status status r size) in
-    by-way (λ f l n x. length x ≡ rowSize) (length-new-row status u identifier terms) (length-with-terms terms _ long marked) marked (length-with-status status r size) a
+    by-way (λ f l n x. length x ≡ rowSize) (length-new-row status u identifier terms) (length-with-terms terms _ long marked) marked (λ f n. length-with-status status r size) a due

@@ -10,7 +10,7 @@ use lib.Seq.{take-at, take-take}
 use lib.Dec.{eqb}
 use borrow.Author.Tests.{eqb-true, eq-eqb}
 use Rattle.octets.specs.Bytes.{Bytes}
-use Rattle.octets.specs.Choice.{choose}
+use Rattle.octets.specs.Choice.{choose, both}
 use Rattle.octets.specs.Part.{part, splice}
 use Rattle.octets.specs.Same.{sameBytes}
 use Rattle.octets.specs.Number.{fromLe, toLe}
@@ -24,7 +24,7 @@ use Rattle.octets.proofs.FieldLaws.{field-fits, field-exact}
 use Rattle.octets.proofs.FieldRun.{placed-at, number-read}
 use Rattle.terms.specs.Terms.{termsSize}
 use Rattle.actions.specs.declared.Action.{Action}
-use Rattle.actions.specs.Actions.{isFull, isNew, writesLine}
+use Rattle.actions.specs.Actions.{isFull, isNew}
 use Rattle.ledger.specs.Layout.{u64, statusAt, lengthAt, utiAt, utiSize, identifierAt, termsAt, tailAt, tailSize, rowSize}
 use Rattle.ledger.specs.Rows.{statusOf, identifierOf, storedTerms, holdsUti, newRow, withStatus, withIdentifier, withTerms, rowAfter}
 use Rattle.ledger.proofs.RowAfterLaws.{row-placed, length-with-status, length-with-identifier, by-way}
@@ -128,7 +128,7 @@ module _ (status : ℕ) (u : Bytes) (identifier : ℕ) (terms : Bytes) where
 
 -- ---- the row after an action
 
-module _ (a : Action) (status : ℕ) (u : Bytes) (identifier : ℕ) (terms r : Bytes) (long : length terms ≡ termsSize) (size : length r ≡ rowSize) where
+module _ (a : Action) (due : Bool) (status : ℕ) (u : Bytes) (identifier : ℕ) (terms r : Bytes) (long : length terms ≡ termsSize) (size : length r ≡ rowSize) where
   abbrev set : Bytes
   set = withStatus status r
 
@@ -145,47 +145,47 @@ module _ (a : Action) (status : ℕ) (u : Bytes) (identifier : ℕ) (terms r : B
   marked-size = length-with-identifier identifier set set-size
 
   -- the status is written by every action
-  pub after-status : statusOf (rowAfter a status u identifier terms r) ≡ status
+  pub after-status : statusOf (rowAfter a due status u identifier terms r) ≡ status
   unfolding statusOf
   after-status =
       let one : getD set statusAt 0 ≡ status = status-status r size status in
       let two : getD marked statusAt 0 ≡ status = same-byte marked set statusAt (identifier-front set set-size identifier statusAt 1 (omega arith)) ∙ one in
       let three : getD changed statusAt 0 ≡ status = same-byte changed marked statusAt (terms-front marked marked-size terms long statusAt 1 (omega arith)) ∙ two in
-      by-way (λ f w n x. getD x statusAt 0 ≡ status) (new-status status u identifier terms) three two one a
+      by-way (λ f w n x. getD x statusAt 0 ≡ status) (new-status status u identifier terms) three two (λ f n. one) a due
 
-  -- the identifier is written by every action that writes a line
-  pub after-identifier : identifier < 256 ^ u64 → identifierOf (rowAfter a status u identifier terms r) ≡ choose (writesLine a) identifier (identifierOf r)
+  -- the identifier is written where a line is due
+  pub after-identifier : identifier < 256 ^ u64 → identifierOf (rowAfter a due status u identifier terms r) ≡ choose due identifier (identifierOf r)
   unfolding identifierOf
   after-identifier h =
       let one : fromLe (part set identifierAt u64) ≡ fromLe (part r identifierAt u64) = ap fromLe (status-rest r size status identifierAt u64 (omega arith)) in
       let two : fromLe (part marked identifierAt u64) ≡ identifier = identifier-identifier set set-size identifier h in
       let three : fromLe (part changed identifierAt u64) ≡ identifier = ap fromLe (terms-front marked marked-size terms long identifierAt u64 (omega arith)) ∙ two in
-      by-way (λ f w n x. fromLe (part x identifierAt u64) ≡ choose w identifier (fromLe (part r identifierAt u64))) (new-identifier status u identifier terms h) three two one a
+      by-way (λ f w n x. fromLe (part x identifierAt u64) ≡ choose w identifier (fromLe (part r identifierAt u64))) (new-identifier status u identifier terms h) three two (λ f n. one) a due
 
-  -- the terms are written by every full action
-  pub after-terms : storedTerms (rowAfter a status u identifier terms r) ≡ choose (isFull a) terms (storedTerms r)
+  -- the terms are written by a full action where a line is due
+  pub after-terms : storedTerms (rowAfter a due status u identifier terms r) ≡ choose (both due (isFull a)) terms (storedTerms r)
   unfolding storedTerms
   after-terms =
       let one : part set termsAt termsSize ≡ part r termsAt termsSize = status-rest r size status termsAt termsSize (omega arith) in
       let two : part marked termsAt termsSize ≡ part r termsAt termsSize = identifier-rest set set-size identifier termsAt termsSize (omega arith) ∙ one in
       let three : part changed termsAt termsSize ≡ terms = terms-terms marked marked-size terms long in
-      by-way (λ f w n x. part x termsAt termsSize ≡ choose f terms (part r termsAt termsSize)) (new-terms status u identifier terms long) three two one a
+      by-way (λ f w n x. part x termsAt termsSize ≡ choose (both w f) terms (part r termsAt termsSize)) (new-terms status u identifier terms long) three two (λ f n. one) a due
 
   -- length, UTI and padding are written by NEWT alone
-  pub after-kept : isNew a ≡ false → (from n : ℕ) → lengthAt ≤ from → from + n ≤ identifierAt → part (rowAfter a status u identifier terms r) from n ≡ part r from n
+  pub after-kept : isNew a ≡ false → (from n : ℕ) → lengthAt ≤ from → from + n ≤ identifierAt → part (rowAfter a due status u identifier terms r) from n ≡ part r from n
   after-kept e from n p q =
       let one : part set from n ≡ part r from n = status-rest r size status from n p in
       let two : part marked from n ≡ part r from n = identifier-front set set-size identifier from n q ∙ one in
       let three : part changed from n ≡ part r from n = terms-front marked marked-size terms long from n (omega arith) ∙ two in
-      by-way (λ f w new x. new ≡ false → part x from n ≡ part r from n) (λ z. absurd (false≢true (sym z))) (λ z. three) (λ z. two) (λ z. one) a e
+      by-way (λ f w new x. new ≡ false → part x from n ≡ part r from n) (λ z. absurd (false≢true (sym z))) (λ z. three) (λ z. two) (λ f w z. one) a due e
 
   -- and so are the last bytes
-  pub after-tail : isNew a ≡ false → part (rowAfter a status u identifier terms r) tailAt tailSize ≡ part r tailAt tailSize
+  pub after-tail : isNew a ≡ false → part (rowAfter a due status u identifier terms r) tailAt tailSize ≡ part r tailAt tailSize
   after-tail e =
       let one : part set tailAt tailSize ≡ part r tailAt tailSize = status-rest r size status tailAt tailSize (omega arith) in
       let two : part marked tailAt tailSize ≡ part r tailAt tailSize = identifier-rest set set-size identifier tailAt tailSize (omega arith) ∙ one in
       let three : part changed tailAt tailSize ≡ part r tailAt tailSize = terms-rest marked marked-size terms long tailAt tailSize (omega arith) ∙ two in
-      by-way (λ f w new x. new ≡ false → part x tailAt tailSize ≡ part r tailAt tailSize) (λ z. absurd (false≢true (sym z))) (λ z. three) (λ z. two) (λ z. one) a e
+      by-way (λ f w new x. new ≡ false → part x tailAt tailSize ≡ part r tailAt tailSize) (λ z. absurd (false≢true (sym z))) (λ z. three) (λ z. two) (λ f w z. one) a due e
 
-  pub after-holds : isNew a ≡ false → (v : Bytes) → length v ≤ utiSize → holdsUti v (rowAfter a status u identifier terms r) ≡ holdsUti v r
-  after-holds e v h = same-uti r (rowAfter a status u identifier terms r) (after-kept e) v h
+  pub after-holds : isNew a ≡ false → (v : Bytes) → length v ≤ utiSize → holdsUti v (rowAfter a due status u identifier terms r) ≡ holdsUti v r
+  after-holds e v h = same-uti r (rowAfter a due status u identifier terms r) (after-kept e) v h

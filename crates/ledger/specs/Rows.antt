@@ -13,7 +13,7 @@ use Rattle.octets.specs.Number.{fromLe, toLe}
 use Rattle.octets.specs.Fields.{FieldText, numberField, bytesOf}
 use Rattle.terms.specs.Terms.{termsSize, timeSize}
 use Rattle.actions.specs.declared.Action.{Action}
-use Rattle.actions.specs.Actions.{isFull, isNew, writesLine}
+use Rattle.actions.specs.Actions.{isFull, isNew}
 use Rattle.actions.specs.Statuses.{unknown}
 use Rattle.ledger.specs.Layout.{u8, u32, u64, rowsAt, nextAt, statusAt, lengthAt, utiAt, utiSize, identifierAt, termsAt, tailSize, rowSize, rowStart}
 use Rattle.ledger.specs.Header.{rowsInUse}
@@ -104,16 +104,17 @@ withIdentifier identifier r = splice r identifierAt (toLe u64 identifier)
 unfoldable pub withTerms : Bytes → Bytes → Bytes
 withTerms terms r = splice r termsAt terms
 
--- NEWT writes the whole row; any other full action writes status, terms and identifier; TERM and EROR status and identifier; PRTO only the status
-abbrev pub rowAfter : Action → ℕ → Bytes → ℕ → Bytes → Bytes → Bytes
-rowAfter a status u identifier terms r =
+-- where a line is due, NEWT writes the whole row, any other full action status, terms and identifier, TERM and EROR status and identifier; where none is, only
+-- the status is written
+abbrev pub rowAfter : Action → Bool → ℕ → Bytes → ℕ → Bytes → Bytes → Bytes
+rowAfter a due status u identifier terms r =
     let set : Bytes = withStatus status r in
     let marked : Bytes = withIdentifier identifier set in
-    choose (isNew a) (newRow status u identifier terms) (choose (isFull a) (withTerms terms marked) (choose (writesLine a) marked set))
+    choose due (choose (isNew a) (newRow status u identifier terms) (choose (isFull a) (withTerms terms marked) marked)) set
 
 -- a row is written through its own part of the ledger
-abbrev pub rowsAfter : Action → ℕ → Bytes → ℕ → Bytes → ℕ → Bytes → Bytes
-rowsAfter a status u identifier terms k l = splice l (rowStart k) (rowAfter a status u identifier terms (rowAt l k))
+abbrev pub rowsAfter : Action → Bool → ℕ → Bytes → ℕ → Bytes → ℕ → Bytes → Bytes
+rowsAfter a due status u identifier terms k l = splice l (rowStart k) (rowAfter a due status u identifier terms (rowAt l k))
 
 -- ---- what is written of the header
 
@@ -124,7 +125,7 @@ unfoldable pub withNext : ℕ → Bytes → Bytes
 withNext next l = splice l nextAt (toLe u64 next)
 
 -- NEWT raises rows in use by one; each line takes the next identifier, which then rises by one
-unfoldable pub headerAfter : Action → ℕ → ℕ → Bytes → Bytes
-headerAfter a rows next l =
+unfoldable pub headerAfter : Action → Bool → ℕ → ℕ → Bytes → Bytes
+headerAfter a due rows next l =
     let counted : Bytes = choose (isNew a) (withRows (rows + 1) l) l in
-    choose (writesLine a) (withNext (next + 1) counted) counted
+    choose due (withNext (next + 1) counted) counted

@@ -3,7 +3,7 @@ ghost use mathlib.Core.Path.{_≡_};
 ghost use Prim.Native.Nat.{_+_, _^_, _<_, _≤_};
 ghost use lib.ListN.{length};
 ghost use Rattle.octets.specs.Choice.{choose};
-ghost use Rattle.actions.specs.Actions.{isNew, writesLine};
+ghost use Rattle.actions.specs.Actions.{isNew};
 ghost use Rattle.terms.specs.Terms.{termsSize};
 ghost use Rattle.ledger.specs.Layout.{u32, utiSize, rowSize, rowStart, headerSize, identifierLimit};
 ghost use Rattle.ledger.specs.Rows.{newRow, withStatus, withIdentifier, withTerms, rowAfter, rowsAfter, withRows, withNext, headerAfter};
@@ -25,7 +25,6 @@ use crate::layout::UTI_SIZE;
 use actions::Action;
 use actions::is_full;
 use actions::is_new;
-use actions::writes_line;
 use octets::copy_at;
 use octets::field_at;
 use octets::fill_at;
@@ -44,7 +43,7 @@ fn write_row(row: &mut [u8], status: u8, uti: &[u8], identifier: u64, terms: &[u
     fill_at(row, TAIL_AT, TAIL_SIZE, 0);
 }
 
-// PRTO writes the status.
+// Without a line only the status is written.
 fn set_status(row: &mut [u8], status: u8)
     requires { ⌜ length (now row) ≡ rowSize ⌝ }
     ensures { λ _. ⌜ now (row .exit) ≡ withStatus status (now (row .entry)) ⌝ }
@@ -70,19 +69,27 @@ fn change_row(row: &mut [u8], status: u8, identifier: u64, terms: &[u8])
     copy_at(row, TERMS_AT, terms);
 }
 
-// What the action writes of the swap's row.
-fn update_row(row: &mut [u8], a: Action, status: u8, uti: &[u8], identifier: u64, terms: &[u8])
+// What a message writes of the swap's row, by its action and whether a line is due.
+fn update_row(
+    row: &mut [u8],
+    a: Action,
+    due: bool,
+    status: u8,
+    uti: &[u8],
+    identifier: u64,
+    terms: &[u8],
+)
     requires { ⌜ (length (now row) ≡ rowSize) × (length (now uti) ≤ utiSize) × (length (now terms) ≡ termsSize) ⌝ }
-    ensures { λ _. ⌜ now (row .exit) ≡ rowAfter a status (now (uti .entry)) identifier (now (terms .entry)) (now (row .entry)) ⌝ }
+    ensures { λ _. ⌜ now (row .exit) ≡ rowAfter a due status (now (uti .entry)) identifier (now (terms .entry)) (now (row .entry)) ⌝ }
 {
-    if is_new(a) {
+    if !due {
+        set_status(row, status);
+    } else if is_new(a) {
         write_row(row, status, uti, identifier, terms);
     } else if is_full(a) {
         change_row(row, status, identifier, terms);
-    } else if writes_line(a) {
-        mark_row(row, status, identifier);
     } else {
-        set_status(row, status);
+        mark_row(row, status, identifier);
     }
 }
 
@@ -91,17 +98,18 @@ pub fn store_row(
     l: &mut [u8],
     k: usize,
     a: Action,
+    due: bool,
     status: u8,
     uti: &[u8],
     identifier: u64,
     terms: &[u8],
 )
     requires { ⌜ (rowStart (k + 1) ≤ length (now l)) × (length (now uti) ≤ utiSize) × (length (now terms) ≡ termsSize) ⌝ }
-    ensures { λ _. ⌜ now (l .exit) ≡ rowsAfter a status (now (uti .entry)) identifier (now (terms .entry)) k (now (l .entry)) ⌝ }
+    ensures { λ _. ⌜ now (l .exit) ≡ rowsAfter a due status (now (uti .entry)) identifier (now (terms .entry)) k (now (l .entry)) ⌝ }
 {
     let start = HEADER_SIZE + k * ROW_SIZE;
     let end = start + ROW_SIZE;
-    update_row(&mut l[start..end], a, status, uti, identifier, terms);
+    update_row(&mut l[start..end], a, due, status, uti, identifier, terms);
 }
 
 // A new swap raises rows in use by one.
@@ -115,20 +123,20 @@ fn raise_rows(l: &mut [u8], a: Action, rows: u64)
 }
 
 // Each line raises the next identifier by one.
-fn raise_next(l: &mut [u8], a: Action, next: u64)
+fn raise_next(l: &mut [u8], due: bool, next: u64)
     requires { ⌜ (headerSize ≤ length (now l)) × (next ≤ identifierLimit) ⌝ }
-    ensures { λ _. ⌜ now (l .exit) ≡ choose (writesLine a) (withNext (next + 1) (now (l .entry))) (now (l .entry)) ⌝ }
+    ensures { λ _. ⌜ now (l .exit) ≡ choose due (withNext (next + 1) (now (l .entry))) (now (l .entry)) ⌝ }
 {
-    if writes_line(a) {
+    if due {
         write_at(l, NEXT_AT, U64, next + 1);
     }
 }
 
-// What the action writes of the header.
-pub fn update_header(l: &mut [u8], a: Action, rows: u64, next: u64)
+// What a message writes of the header.
+pub fn update_header(l: &mut [u8], a: Action, due: bool, rows: u64, next: u64)
     requires { ⌜ (headerSize ≤ length (now l)) × (rows < 256 ^ u32) × (next ≤ identifierLimit) ⌝ }
-    ensures { λ _. ⌜ now (l .exit) ≡ headerAfter a rows next (now (l .entry)) ⌝ }
+    ensures { λ _. ⌜ now (l .exit) ≡ headerAfter a due rows next (now (l .entry)) ⌝ }
 {
     raise_rows(l, a, rows);
-    raise_next(l, a, next);
+    raise_next(l, due, next);
 }

@@ -1,7 +1,7 @@
 -- The identifiers of answers fit the number that carries them. Assumes nothing.
-use Prim.Native.Nat.{ℕ, zero, suc, _-_, _^_, _<_, _≤_}
+use Prim.Native.Nat.{ℕ, zero, suc, _-_, _<_, _≤_}
 use mathlib.Core.Bool.{Bool, true, false}
-use mathlib.Core.Path.{_≡_, refl, sym, ap, _∙_}
+use mathlib.Core.Path.{_≡_, refl}
 use native.Mathlib.Omega.{arith}
 use lib.Dec.{leb}
 use borrow.Author.Tests.{leb-true}
@@ -9,42 +9,33 @@ use Rattle.octets.specs.Bytes.{Bytes}
 use Rattle.octets.specs.Choice.{choose}
 use Rattle.octets.proofs.ChoiceLaws.{both-second, both-false, not-not}
 use Rattle.values.specs.Run.{within}
-use Rattle.actions.specs.Actions.{writesLine}
 use Rattle.actions.specs.Statuses.{live, ported}
-use Rattle.ledger.specs.Layout.{u32, identifierLimit}
+use Rattle.ledger.specs.Layout.{identifierLimit}
 use Rattle.ledger.specs.Header.{nextIdentifier, headerRight}
 use Rattle.ledger.specs.Rows.{isKnown, swapStatus, swapIdentifier, swapIn}
 use Rattle.ledger.proofs.RightHeader.{right-header}
 use Rattle.submission.specs.Opening.{Limits}
 use Rattle.submission.specs.Lent.{Lent}
-use Rattle.submission.specs.Submission.{rowRight, hasWrongRow, submitted}
+use Rattle.submission.specs.Submission.{lineDueIn, rowRight, hasWrongRow, submitted}
 use Rattle.submission.specs.Status.{asked}
+use Rattle.submission.proofs.Acceptance.{has-place}
+use Rattle.submission.proofs.Outcome.{by-outcome}
 use Rattle.submission.proofs.Demand1.{question-answers}
 use Rattle.submission.proofs.Demand2.{question-exactly}
 use Rattle.repository.specs.declared.answer.Answer.{Answer}
-use Rattle.repository.specs.declared.decide.Decision.{Decision}
-use Rattle.repository.specs.declared.decide.Decision.the-variants.{Refused, Value}
 use Rattle.repository.specs.Answers.{carriedLimit}
-use Rattle.repository.specs.Decision.{decision, decisionAnswer}
-use Rattle.repository.proofs.AcceptanceLaws.{decision-answers, writable}
 
 pub carried : (a b : Answer) → a ≡ b → b .identifier < carriedLimit → a .identifier < carriedLimit
 carried a b e h = rw e h
 
 -- a submission answers the next identifier or 0
-pub submission-small : (limits : Limits) (lent : Lent) (m : Bytes) → limits .largest < 256 ^ u32 → submitted limits lent m .identifier < carriedLimit
-submission-small limits lent m small = by (decision limits lent m) refl
+pub submission-small : (limits : Limits) (lent : Lent) (m : Bytes) → submitted limits lent m .identifier < carriedLimit
+submission-small limits lent m =
+    by-outcome limits lent m (λ s. s .identifier < carriedLimit) (λ c. least (lineDueIn (c .admitted .action) (lent .ledger) m) (has-place (c .admitted) .header .next)) (λ v z. omega arith)
   where
-    is : (d : Decision) → decision limits lent m ≡ d → submitted limits lent m .identifier ≡ decisionAnswer d .identifier
-    is d e = sym (ap (λ (a : Answer). a .identifier) (decision-answers limits lent m)) ∙ ap (λ x. decisionAnswer x .identifier) e
-
-    least : (b : Bool) (n : ℕ) → n ≤ identifierLimit → choose b n 0 ≤ identifierLimit
-    least true n h = h
-    least false n h = omega arith
-
-    by : (d : Decision) → decision limits lent m ≡ d → submitted limits lent m .identifier < carriedLimit
-    by (Refused v e) g = omega (arith, is (Refused v e) g)
-    by (Value s) g = omega (arith, is (Value s) g, least (writesLine (s .action)) (s .next) (writable limits lent m s small g .next))
+    least : (b : Bool) → nextIdentifier (lent .ledger) ≤ identifierLimit → choose b (nextIdentifier (lent .ledger)) 0 < carriedLimit
+    least true h = omega arith
+    least false h = omega arith
 
 -- a right row has an identifier below the next one
 swap-small : (largest : ℕ) (l u : Bytes) → headerRight largest l ≡ true → hasWrongRow (nextIdentifier l) (swapIn l u) ≡ false → swapIdentifier l u ≤ identifierLimit

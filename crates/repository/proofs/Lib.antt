@@ -1,4 +1,4 @@
 pub mod AnswerLaws
 pub mod DecisionLaws
-pub mod AcceptanceLaws
+pub mod AdmissionLaws
 pub mod AnswerSizes

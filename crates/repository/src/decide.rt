@@ -1,4 +1,4 @@
-// The decision on a message: the rules of a submission in checking order. Reads only.
+// The decision on a message: the rules of a submission in checking order, up to 17. Reads only.
 ghost use Prim.Native.Nat.{ℕ};
 ghost use mathlib.Core.Path.{_≡_};
 ghost use Rattle.octets.specs.Bytes.{Bytes};
@@ -6,12 +6,11 @@ ghost use Rattle.octets.specs.Choice.{choose};
 ghost use Rattle.actions.specs.Actions.{isFull};
 ghost use Rattle.ledger.specs.declared.search.Swap.{Swap as SwapValues};
 ghost use Rattle.rules.specs.Verdicts.{layoutWrong};
-ghost use Rattle.submission.specs.Verdicts.{tapeShort, rowWrong, notAdmitted, otherTime, ledgerFull, identifiersSpent};
+ghost use Rattle.submission.specs.Verdicts.{tapeShort, rowWrong, notAdmitted, otherTime, ledgerFull};
 ghost use Rattle.submission.specs.Lent.{Buffers, lentOf};
-ghost use Rattle.submission.specs.Submission.{capOn, hasWrongRow, hasOtherTime, findsFull, findsSpent};
+ghost use Rattle.submission.specs.Submission.{capOn, hasWrongRow, hasOtherTime, findsFull};
 ghost use Rattle.repository.specs.Answers.{limitsOf};
-ghost use Rattle.repository.specs.Decision.{acceptanceFor, decision, decisionFrom, decidedFrom, decisionIn, HeaderRead};
-use crate::verdicts::IDENTIFIERS_SPENT;
+ghost use Rattle.repository.specs.Decision.{admissionFor, decision, decisionFrom, decidedFrom, decisionIn, HeaderRead};
 use crate::verdicts::LEDGER_FULL;
 use crate::verdicts::LEDGER_WRONG;
 use crate::verdicts::NOT_ADMITTED;
@@ -26,14 +25,12 @@ use actions::is_full;
 use actions::is_new;
 use actions::repeats_time;
 use actions::status_after;
-use actions::writes_line;
 use elements::ASSET_CLASS;
 use elements::EXECUTION_TIMESTAMP;
 use elements::UTI;
 use ledger::Caps;
 use ledger::Header;
 use ledger::HeaderCheck;
-use ledger::IDENTIFIER_LIMIT;
 use ledger::LINE_SIZE;
 use ledger::Swap;
 use ledger::cap_for;
@@ -45,9 +42,9 @@ use octets::same;
 use rules::Judged;
 use rules::judge;
 
-// What the writes of an accepted message use: its action, the place of the swap's row, the swap's next status and last identifier, the header's
-// numbers, and the cap that applies.
-pub struct Acceptance {
+// What 18 and the writes use of a message that every other rule admits: its action, the place of the swap's row, the swap's next status and last
+// identifier, the header's numbers, and the cap that applies.
+pub struct Admission {
     pub action: Action,
     pub place: usize,
     pub status: u8,
@@ -57,10 +54,10 @@ pub struct Acceptance {
     pub cap: u64,
 }
 
-// A refusal, with verdict and element, or an acceptance.
+// A refusal, with verdict and element, or an admission: every rule but 18 is passed.
 pub enum Decision {
     Refused(u8, u8),
-    Value(Acceptance),
+    Value(Admission),
 }
 
 // The cap that applies to a full message; other messages have none.
@@ -112,19 +109,9 @@ fn finds_full(a: Action, header: Header) -> bool
     header.rows == header.capacity
 }
 
-// Whether a line is due and identifiers are spent (18).
-fn finds_spent(a: Action, header: Header) -> bool
-    ensures { λ r. ⌜ r ≡ findsSpent a header ⌝ }
-{
-    if !writes_line(a) {
-        return false;
-    }
-    header.next == IDENTIFIER_LIMIT
-}
-
 // Each function below judges one rule, in checking order, and hands on to the next. The number is the rule's.
 
-// 3. The first rule that the message breaks, or its acceptance.
+// 3. The first rule up to 17 that the message breaks, or its admission.
 pub fn decide(l: &[u8], tape: &[u8], m: &[u8], longest: usize, largest: u32) -> Decision
     ensures { λ r. ⌜ r ≡ decision (limitsOf longest largest) (lentOf (now (l .entry)) (now (tape .entry))) (now (m .entry)) ⌝ }
 {
@@ -156,7 +143,7 @@ fn decide_message(l: &[u8], m: &[u8], longest: usize, header: Header) -> Decisio
     }
 }
 
-// 14 to 18, with what the ledger has of the swap: from here on values decide.
+// 14 to 17, with what the ledger has of the swap: from here on values decide.
 fn decide_swap(l: &[u8], m: &[u8], header: Header, action: Action) -> Decision
     requires { ⌜ HeaderRead header (now l) ⌝ }
     ensures { λ r. ⌜ r ≡ decisionIn action (now (l .entry)) (now (m .entry)) ⌝ }
@@ -176,7 +163,7 @@ fn decide_row(
     cap: u64,
     m: &[u8],
 ) -> Decision
-    ensures { λ r. ⌜ r ≡ decidedFrom rowWrong header swap (now (time .entry)) (now (m .entry)) (acceptanceFor action header swap cap) ⌝ }
+    ensures { λ r. ⌜ r ≡ decidedFrom rowWrong header swap (now (time .entry)) (now (m .entry)) (admissionFor action header swap cap) ⌝ }
 {
     if has_wrong_row(header.next, swap) {
         return Decision::Refused(ROW_WRONG, 0);
@@ -193,13 +180,13 @@ fn decide_step(
     cap: u64,
     m: &[u8],
 ) -> Decision
-    ensures { λ r. ⌜ r ≡ decidedFrom notAdmitted header swap (now (time .entry)) (now (m .entry)) (acceptanceFor action header swap cap) ⌝ }
+    ensures { λ r. ⌜ r ≡ decidedFrom notAdmitted header swap (now (time .entry)) (now (m .entry)) (admissionFor action header swap cap) ⌝ }
 {
     let status = status_after(action, swap.status);
     if status == NO_STEP {
         return Decision::Refused(NOT_ADMITTED, 0);
     }
-    let s = Acceptance {
+    let s = Admission {
         action,
         place: swap.place,
         status,
@@ -212,7 +199,7 @@ fn decide_step(
 }
 
 // 16
-fn decide_time(s: Acceptance, header: Header, time: &[u8], m: &[u8]) -> Decision
+fn decide_time(s: Admission, header: Header, time: &[u8], m: &[u8]) -> Decision
     ensures { λ r. ⌜ ((swap : SwapValues) → r ≡ decidedFrom otherTime header swap (now (time .entry)) (now (m .entry)) s) ⌝ }
 {
     let a = s.action;
@@ -223,23 +210,12 @@ fn decide_time(s: Acceptance, header: Header, time: &[u8], m: &[u8]) -> Decision
 }
 
 // 17
-fn decide_room(s: Acceptance, header: Header) -> Decision
+fn decide_room(s: Admission, header: Header) -> Decision
     ensures { λ r. ⌜ ((swap : SwapValues) (time m : Bytes) → r ≡ decidedFrom ledgerFull header swap time m s) ⌝ }
 {
     let a = s.action;
     if finds_full(a, header) {
         return Decision::Refused(LEDGER_FULL, 0);
-    }
-    decide_identifier(s, header)
-}
-
-// 18
-fn decide_identifier(s: Acceptance, header: Header) -> Decision
-    ensures { λ r. ⌜ ((swap : SwapValues) (time m : Bytes) → r ≡ decidedFrom identifiersSpent header swap time m s) ⌝ }
-{
-    let a = s.action;
-    if finds_spent(a, header) {
-        return Decision::Refused(IDENTIFIERS_SPENT, 0);
     }
     Decision::Value(s)
 }

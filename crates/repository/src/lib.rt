@@ -1,6 +1,7 @@
 // The three operations (specification, section 10): open a ledger, submit a message, ask the status of a swap. A C host reaches them through include/sdr.h.
 mod answer;
 mod apply;
+mod conclude;
 mod decide;
 mod operations;
 mod verdicts;

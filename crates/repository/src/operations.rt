@@ -1,8 +1,6 @@
 // The three operations, with the limits as parameters. Reading decides, then writing cannot fail.
 ghost use Prim.Native.Nat.{ℕ};
 ghost use mathlib.Core.Path.{_≡_};
-ghost use Rattle.octets.specs.Choice.{choose};
-ghost use Rattle.actions.specs.Actions.{writesLine};
 ghost use Rattle.submission.specs.Opening.{opened};
 ghost use Rattle.submission.specs.Lent.{lentOf};
 ghost use Rattle.submission.specs.Submission.{submitted};
@@ -11,7 +9,7 @@ ghost use Rattle.repository.specs.Answers.{limitsOf, submissionAnswer, q
 ghost use Rattle.repository.specs.Decision.{decisionAnswer};
 use crate::answer::Answer;
 use crate::answer::refusal;
-use crate::apply::apply;
+use crate::conclude::conclude;
 use crate::decide::Decision;
 use crate::decide::decide;
 use crate::decide::has_wrong_row;
@@ -19,8 +17,6 @@ use crate::verdicts::CAP_WRONG;
 use crate::verdicts::LEDGER_SHORT;
 use crate::verdicts::LEDGER_WRONG;
 use crate::verdicts::ROW_WRONG;
-use actions::Action;
-use actions::writes_line;
 use elements::UTI;
 use elements::has_form;
 use ledger::Caps;
@@ -49,28 +45,13 @@ pub fn open(l: &mut [u8], caps: Caps, largest: u32) -> u8
     0
 }
 
-// The identifier that the line takes; 0 where no line is written.
-fn line_identifier(a: Action, next: u64) -> u64
-    ensures { λ r. ⌜ r ≡ choose (writesLine a) next 0 ⌝ }
-{
-    if writes_line(a) { next } else { 0 }
-}
-
-// What a decision answers.
+// What a decision answers by itself: a refusal its verdict and element. For an admission the rest is left to do.
 fn answer_of(d: Decision) -> Answer
     ensures { λ r. ⌜ r ≡ decisionAnswer d ⌝ }
 {
     match d {
         Decision::Refused(verdict, element) => refusal(verdict, element),
-        Decision::Value(acceptance) => {
-            let a = acceptance.action;
-            Answer {
-                verdict: 0,
-                element: 0,
-                status: 0,
-                identifier: line_identifier(a, acceptance.next),
-            }
-        }
+        Decision::Value(_) => refusal(0, 0),
     }
 }
 
@@ -80,11 +61,10 @@ pub fn submit(l: &mut [u8], tape: &mut [u8], m: &[u8], longest: usize, largest: 
     ensures { λ _. ⌜ lentOf (now (l .exit)) (now (tape .exit)) ≡ submitted (limitsOf longest largest) (lentOf (now (l .entry)) (now (tape .entry))) (now (m .entry)) .lent ⌝ }
 {
     let decision = decide(l, tape, m, longest, largest);
-    let Decision::Value(acceptance) = decision else {
+    let Decision::Value(admission) = decision else {
         return answer_of(decision);
     };
-    apply(l, tape, m, acceptance);
-    answer_of(decision)
+    conclude(l, tape, m, admission)
 }
 
 // The swap's status and last identifier.

@@ -170,7 +170,7 @@ unfolding firstBroken AllPassed
 none-broken [] all = refl
 none-broken (r ∷ rs) all = ap (λ g. orElse (ruleNumber r) g (firstBroken rs)) (all .0) ∙ none-broken rs (all .1)
 
--- where every rule is passed, the one with number n is, and so are those from it on
+-- where every rule is passed, the one with number n is, and so are those before it and those from it on
 pub is-passed : (n : ℕ) (rs : List Rule) → AllPassed rs → findingOf n rs ≡ passed
 unfolding findingOf AllPassed
 is-passed n [] all = refl
@@ -179,6 +179,15 @@ is-passed n (r ∷ rs) all = by (eqb (ruleNumber r) n) (is-passed n rs (all .1))
     by : (t : Bool) → findingOf n rs ≡ passed → choose t (ruleFinding r) (findingOf n rs) ≡ passed
     by true rest = all .0
     by false rest = rest
+
+pub passed-before : (n : ℕ) (rs : List Rule) → AllPassed rs → AllPassed (beforeRule n rs)
+unfolding beforeRule AllPassed
+passed-before n [] all = all
+passed-before n (r ∷ rs) all = by (eqb (ruleNumber r) n) (passed-before n rs (all .1))
+  where
+    by : (t : Bool) → AllPassed (beforeRule n rs) → AllPassed (choose t [] (r ∷ beforeRule n rs))
+    by true rest = tt
+    by false rest = (all .0, rest)
 
 pub passed-from : (n : ℕ) (rs : List Rule) → AllPassed rs → AllPassed (fromRule n rs)
 unfolding fromRule AllPassed

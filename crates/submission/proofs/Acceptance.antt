@@ -1,20 +1,21 @@
 -- What the verdict 0 tells of ledger, tape buffer and message. Assumes nothing.
 use Prim.Native.Nat.{ℕ, suc, _<_, _≤_}
 use mathlib.Core.Bool.{Bool, true, false, not, false≢true}
-use mathlib.Core.Path.{_≡_, refl, sym, ap, _∙_}
+use mathlib.Core.Path.{_≡_, refl, sym, ap, _∙_, subst}
+use mathlib.Core.List.{List, [], _∷_, _++_}
 use native.Mathlib.Omega.{arith}
 use lib.ListN.{length}
 use lib.Dec.{eqb, leb, ltb, lit≤}
 use borrow.Author.Tests.{eqb-false, ne-eqb, leb-true, ltb-true, ltb-false}
 use Rattle.octets.specs.Bytes.{Bytes}
-use Rattle.octets.specs.Choice.{both}
+use Rattle.octets.specs.Choice.{choose, both}
 use Rattle.octets.proofs.ChoiceLaws.{both-first, both-second, both-false, not-not}
 use Rattle.values.specs.Limits.{utiLeast, utiMost}
 use Rattle.values.specs.Run.{within, runOf}
 use Rattle.actions.specs.declared.Action.{Action}
 use Rattle.actions.specs.declared.Checked.{Checked}
 use Rattle.actions.specs.declared.Checked.the-variants.{Fault, Value}
-use Rattle.actions.specs.Actions.{isNew, writesLine, nextStatus}
+use Rattle.actions.specs.Actions.{isNew, nextStatus}
 use Rattle.actions.specs.Statuses.{live, ported, unknown, noStep}
 use Rattle.actions.proofs.KindLaws.{old-unknown, new-unknown}
 use Rattle.elements.specs.Codes.{uti}
@@ -24,17 +25,17 @@ use Rattle.elements.specs.Messages.{needs as is-needed}
 use Rattle.elements.specs.Table.{elementOf}
 use Rattle.rules.specs.declared.checks.Check.the-variants.{Needed, Formed}
 use Rattle.rules.specs.Verdicts.{layoutWrong, actionWrong, elementMissing, formBroken}
-use Rattle.rules.specs.Findings.{passed, broken, firstBroken, findingOf, fromRule, AllPassed}
+use Rattle.rules.specs.Findings.{passed, broken, Rule, test, firstBroken, findingOf, fromRule, beforeRule, AllPassed}
 use Rattle.rules.specs.Rules.{rulesFor, rulesOf, atFault}
-use Rattle.rules.proofs.FindingLaws.{not-broken, unused, distinct, all-passed, is-passed, none-broken, passed-from, passed-front, lowest-passed}
-use Rattle.ledger.specs.Layout.{utiSize, lineSize, identifierLimit}
+use Rattle.rules.proofs.FindingLaws.{not-broken, unused, distinct, all-passed, is-passed, none-broken, passed-before, passed-from, passed-front, passed-then, lowest-passed}
+use Rattle.ledger.specs.Layout.{utiSize, lineSize}
 use Rattle.ledger.specs.Header.{rowsInUse, nextIdentifier, capacityIn, headerRight, RightHeader, headerOf}
 use Rattle.ledger.specs.Rows.{placeOf, isKnown, swapStatus, swapTime, swapIn}
 use Rattle.ledger.proofs.RightHeader.{right-header}
 use Rattle.submission.specs.Verdicts.{ledgerWrong, tapeShort, rowWrong, notAdmitted, otherTime, ledgerFull, identifiersSpent}
 use Rattle.submission.specs.Opening.{Limits}
 use Rattle.submission.specs.Lent.{Lent}
-use Rattle.submission.specs.Submission.{swapOf, actionIn, rowRight, hasWrongRow, isNotAdmitted, hasOtherTime, findsFull, findsSpent, swapRules, rulesIn, submissionRules, verdictOn, placeFor, accepted, refused, concluded, submitted}
+use Rattle.submission.specs.Submission.{swapOf, actionIn, lineDueIn, rowRight, hasWrongRow, isNotAdmitted, hasOtherTime, findsFull, findsSpent, identifierRule, swapRules, rulesIn, submissionRules, rulesOn, verdictOn, placeFor, accepted, refused, concluded, submitted}
 
 -- ---- the rules
 
@@ -45,25 +46,68 @@ module _ (limits : Limits) (lent : Lent) (m : Bytes) where
   numbers-differ (Fault code) = refl
   numbers-differ (Value a) = refl
 
-  -- a message that is accepted has an action, and passes every rule
-  pub record Accepted : Type 0 where
+  -- every rule but 18
+  abbrev pub admitting : Checked → List Rule
+  admitting r = beforeRule identifiersSpent (submissionRules limits r lent m)
+
+  admitting-differ : (r : Checked) → distinct (admitting r) ≡ true
+  unfolding submissionRules rulesFor rulesOf swapRules unused distinct beforeRule
+  admitting-differ (Fault code) = refl
+  admitting-differ (Value a) = refl
+
+  -- a message that every rule but 18 admits has an action
+  pub record Admitted : Type 0 where
     pub action : Action
     pub reads : actionIn m ≡ Value action
-    pub passes : AllPassed (submissionRules limits (Value action) lent m)
+    pub passes : AllPassed (admitting (Value action))
 
-  pub as-accepted : verdictOn limits lent m .0 ≡ 0 → Accepted
-  unfolding verdictOn submissionRules rulesFor findingOf
-  as-accepted v = by (actionIn m) refl
+  pub as-admitted : firstBroken (admitting (actionIn m)) .0 ≡ 0 → Admitted
+  unfolding submissionRules rulesFor findingOf beforeRule
+  as-admitted v = by (actionIn m) refl
     where
-      passing : (r : Checked) → actionIn m ≡ r → AllPassed (submissionRules limits r lent m)
-      passing r e = all-passed (submissionRules limits r lent m) (numbers-differ r) (ap (λ r. firstBroken (submissionRules limits r lent m) .0) (sym e) ∙ v)
+      passing : (r : Checked) → actionIn m ≡ r → AllPassed (admitting r)
+      passing r e = all-passed (admitting r) (admitting-differ r) (ap (λ r. firstBroken (admitting r) .0) (sym e) ∙ v)
 
-      by : (r : Checked) → actionIn m ≡ r → Accepted
+      by : (r : Checked) → actionIn m ≡ r → Admitted
       by (Fault code) e =
-          let p : broken code ≡ passed = is-passed actionWrong (submissionRules limits (Fault code) lent m) (passing (Fault code) e) in
+          let p : broken code ≡ passed = is-passed actionWrong (admitting (Fault code)) (passing (Fault code) e) in
           let z : _≡_ {A = ℕ} 0 1 = cc in
           absurd (omega arith)
       by (Value a) e = record { action = a; reads = e; passes = passing (Value a) e }
+
+  -- where it has an identifier for its line too, it is accepted
+  pub record Accepted : Type 0 where
+    pub admitted : Admitted
+    pub spare : findsSpent (lineDueIn (admitted .action) (lent .ledger) m) (nextIdentifier (lent .ledger)) ≡ false
+
+  -- 18 stands behind the other rules
+  whole-is : (a : Action) → submissionRules limits (Value a) lent m ≡ admitting (Value a) ++ (identifierRule a (lent .ledger) m ∷ [])
+  unfolding submissionRules rulesFor rulesOf swapRules beforeRule
+  whole-is a = refl
+
+  is-spare : (a : Action) → AllPassed (submissionRules limits (Value a) lent m) → findsSpent (lineDueIn a (lent .ledger) m) (nextIdentifier (lent .ledger)) ≡ false
+  unfolding submissionRules rulesFor rulesOf swapRules findingOf
+  is-spare a all = not-broken _ (is-passed identifiersSpent (submissionRules limits (Value a) lent m) all)
+
+  pub as-accepted : verdictOn limits lent m .0 ≡ 0 → Accepted
+  unfolding verdictOn
+  as-accepted v =
+      let all : AllPassed (rulesOn limits lent m) = all-passed (rulesOn limits lent m) (numbers-differ (actionIn m)) v in
+      let c : Admitted = as-admitted (ap (λ x. x .0) (none-broken (admitting (actionIn m)) (passed-before identifiersSpent (rulesOn limits lent m) all))) in
+      record { admitted = c; spare = is-spare (c .action) (subst (λ r. AllPassed (submissionRules limits r lent m)) (c .reads) all) }
+
+  -- the first rule broken where every rule but 18 admits the message: 18 or none
+  pub left-to-18 : (c : Admitted) → verdictOn limits lent m ≡ choose (findsSpent (lineDueIn (c .action) (lent .ledger) m) (nextIdentifier (lent .ledger))) (identifiersSpent, 0) (0, 0)
+  unfolding verdictOn firstBroken
+  left-to-18 c =
+      ap (λ r. firstBroken (submissionRules limits r lent m)) (c .reads)
+      ∙ ap firstBroken (whole-is (c .action))
+      ∙ passed-then (admitting (Value (c .action))) (identifierRule (c .action) (lent .ledger) m ∷ []) (c .passes)
+      ∙ by (findsSpent (lineDueIn (c .action) (lent .ledger) m) (nextIdentifier (lent .ledger)))
+    where
+      by : (b : Bool) → firstBroken (test identifiersSpent b ∷ []) ≡ choose b (identifiersSpent, 0) (0, 0)
+      by true = refl
+      by false = refl
 
 -- ---- what the rules that an accepted message passes say
 
@@ -97,7 +141,7 @@ pub record HasPlace (largest : ℕ) (l m : Bytes) (a : Action) : Type 0 where
   -- the row lies within the capacity
   pub place : placeFor a l m < capacityIn l
 
-module _ {limits : Limits} {lent : Lent} {m : Bytes} (c : Accepted limits lent m) where
+module _ {limits : Limits} {lent : Lent} {m : Bytes} (c : Admitted limits lent m) where
   abbrev l : Bytes
   l = lent .ledger
 
@@ -105,48 +149,44 @@ module _ {limits : Limits} {lent : Lent} {m : Bytes} (c : Accepted limits lent m
   a = c .action
 
   -- the rule with number n
-  rule-passed : (n : ℕ) → findingOf n (submissionRules limits (Value a) lent m) ≡ passed
-  rule-passed n = is-passed n (submissionRules limits (Value a) lent m) (c .passes)
+  rule-passed : (n : ℕ) → findingOf n (admitting limits lent m (Value a)) ≡ passed
+  rule-passed n = is-passed n (admitting limits lent m (Value a)) (c .passes)
 
   pub header-test : headerRight (limits .largest) l ≡ true
-  unfolding submissionRules rulesFor rulesOf swapRules findingOf
+  unfolding submissionRules rulesFor rulesOf swapRules findingOf beforeRule
   header-test = not-not _ (not-broken _ (rule-passed ledgerWrong))
 
   pub tape-test : ltb (length (lent .buffers .tape)) lineSize ≡ false
-  unfolding submissionRules rulesFor rulesOf swapRules findingOf
+  unfolding submissionRules rulesFor rulesOf swapRules findingOf beforeRule
   tape-test = not-broken _ (rule-passed tapeShort)
 
   pub row-test : hasWrongRow (nextIdentifier l) (swapIn l (swapOf m)) ≡ false
-  unfolding submissionRules rulesFor rulesOf swapRules findingOf headerOf
+  unfolding submissionRules rulesFor rulesOf swapRules findingOf beforeRule headerOf
   row-test = not-broken _ (rule-passed rowWrong)
 
   pub status-test : eqb (nextStatus a (swapStatus l (swapOf m))) noStep ≡ false
-  unfolding submissionRules rulesFor rulesOf swapRules findingOf isNotAdmitted
+  unfolding submissionRules rulesFor rulesOf swapRules findingOf beforeRule isNotAdmitted
   status-test = not-broken _ (rule-passed notAdmitted)
 
   pub time-test : hasOtherTime a (swapTime l (swapOf m)) m ≡ false
-  unfolding submissionRules rulesFor rulesOf swapRules findingOf
+  unfolding submissionRules rulesFor rulesOf swapRules findingOf beforeRule
   time-test = not-broken _ (rule-passed otherTime)
 
   -- the rules of the message alone
   pub message-passes : AllPassed (rulesFor (Value a) (limits .longest) m)
-  unfolding submissionRules rulesFor fromRule
-  message-passes = passed-front (rulesFor (Value a) (limits .longest) m) (rulesIn a l m) (passed-from layoutWrong (submissionRules limits (Value a) lent m) (c .passes))
+  unfolding submissionRules rulesFor rulesOf swapRules fromRule beforeRule
+  message-passes = passed-front (rulesFor (Value a) (limits .longest) m) (rulesIn a l m) (passed-from layoutWrong (admitting limits lent m (Value a)) (c .passes))
 
   pub room-test : both (isNew a) (eqb (rowsInUse l) (capacityIn l)) ≡ false
-  unfolding submissionRules rulesFor rulesOf swapRules findingOf findsFull headerOf
+  unfolding submissionRules rulesFor rulesOf swapRules findingOf beforeRule findsFull headerOf
   room-test = not-broken _ (rule-passed ledgerFull)
 
-  pub spent-test : both (writesLine a) (eqb (nextIdentifier l) identifierLimit) ≡ false
-  unfolding submissionRules rulesFor rulesOf swapRules findingOf findsSpent headerOf
-  spent-test = not-broken _ (rule-passed identifiersSpent)
-
   there : isThere uti m ≡ true
-  unfolding submissionRules rulesFor rulesOf swapRules findingOf is-needed elementOf
+  unfolding submissionRules rulesFor rulesOf swapRules findingOf beforeRule is-needed elementOf
   there = not-not _ (lowest-passed (atFault Needed a m) (rule-passed elementMissing) uti (lit≤ tt) (lit≤ tt))
 
   formed : hasForm uti (swapOf m) ≡ true
-  unfolding submissionRules rulesFor rulesOf swapRules findingOf
+  unfolding submissionRules rulesFor rulesOf swapRules findingOf beforeRule
   formed =
       let f : both (isThere uti m) (not (hasForm uti (swapOf m))) ≡ false = lowest-passed (atFault Formed a m) (rule-passed formBroken) uti (lit≤ tt) (lit≤ tt) in
       not-not _ (both-false (isThere uti m) (not (hasForm uti (swapOf m))) f there)
@@ -184,17 +224,16 @@ module _ {limits : Limits} {lent : Lent} {m : Bytes} (c : Accepted limits lent m
 
 -- ---- what a submission then is
 
-pub tape-room : {limits : Limits} {lent : Lent} {m : Bytes} → Accepted limits lent m → lineSize ≤ length (lent .buffers .tape)
+pub tape-room : {limits : Limits} {lent : Lent} {m : Bytes} → Admitted limits lent m → lineSize ≤ length (lent .buffers .tape)
 tape-room c = ltb-false _ _ (tape-test c)
 
 module _ {limits : Limits} {lent : Lent} {m : Bytes} where
   pub verdict-0 : Accepted limits lent m → verdictOn limits lent m ≡ (0, 0)
-  unfolding verdictOn
-  verdict-0 c = ap (λ r. firstBroken (submissionRules limits r lent m)) (c .reads) ∙ none-broken (submissionRules limits (Value (c .action)) lent m) (c .passes)
+  verdict-0 c = left-to-18 limits lent m (c .admitted) ∙ rw (c .spare)
 
-  pub accepted-answer : (c : Accepted limits lent m) → submitted limits lent m ≡ accepted (c .action) lent m
+  pub accepted-answer : (c : Accepted limits lent m) → submitted limits lent m ≡ accepted (c .admitted .action) lent m
   unfolding submitted
-  accepted-answer c = rw (c .reads, verdict-0 c)
+  accepted-answer c = rw (c .admitted .reads, verdict-0 c)
 
 module _ (limits : Limits) (lent : Lent) (m : Bytes) where
   pub is-refused : (n : ℕ) → verdictOn limits lent m .0 ≡ suc n → submitted limits lent m ≡ refused (verdictOn limits lent m) lent

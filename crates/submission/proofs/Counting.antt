@@ -9,12 +9,12 @@ use lib.Dec.{eqb}
 use Rattle.octets.specs.Bytes.{Bytes}
 use Rattle.octets.specs.Choice.{choose, both}
 use Rattle.octets.proofs.ChoiceLaws.{both-first}
-use Rattle.actions.specs.Actions.{writesLine}
 use Rattle.ledger.specs.declared.header.Caps.{Caps}
 use Rattle.ledger.specs.Layout.{u32}
 use Rattle.ledger.specs.Header.{nextIdentifier}
 use Rattle.submission.specs.Opening.{Limits}
 use Rattle.submission.specs.Lent.{Lent}
+use Rattle.submission.specs.Submission.{lineDueIn}
 use Rattle.submission.specs.History.{Call, submit, messageOf, answerTo, ledgerAfter, ledgerAfterAll, hasAction, publishes, lineOf, tape}
 use Rattle.submission.specs.Demand3.{start}
 use Rattle.submission.specs.Published.{published}
@@ -41,8 +41,8 @@ unfolding publishes
 given limits l (submit m b) =
     let lent : Lent = record { ledger = l; buffers = b } in
     record {
-      is = by-outcome limits lent m (λ s. s .identifier ≡ choose (both (eqb (s .verdict) 0) (hasAction writesLine m)) (nextIdentifier l) 0) (λ c. rw (c .reads)) (λ v z. rw z);
-      some = by-outcome limits lent m (λ s. both (eqb (s .verdict) 0) (hasAction writesLine m) ≡ true → 1 ≤ nextIdentifier l) (λ c p. has-place c .header .positive) (λ v z p. absurd (false≢true (sym z ∙ both-first _ _ p)));
+      is = by-outcome limits lent m (λ s. s .identifier ≡ choose (both (eqb (s .verdict) 0) (hasAction (λ a. lineDueIn a l m) m)) (nextIdentifier l) 0) (λ c. rw (c .admitted .reads)) (λ v z. rw z);
+      some = by-outcome limits lent m (λ s. both (eqb (s .verdict) 0) (hasAction (λ a. lineDueIn a l m) m) ≡ true → 1 ≤ nextIdentifier l) (λ c p. has-place (c .admitted) .header .positive) (λ v z p. absurd (false≢true (sym z ∙ both-first _ _ p)));
     }
 
 pub identifier-with-line : Identifier-with-line

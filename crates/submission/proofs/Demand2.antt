@@ -11,7 +11,7 @@ use Rattle.octets.specs.Bytes.{Bytes}
 use Rattle.octets.specs.Choice.{choose, both}
 use Rattle.octets.specs.Part.{splice}
 use Rattle.octets.specs.Fields.{Placed}
-use Rattle.octets.proofs.ChoiceLaws.{both-first, both-second, both-false, not-not}
+use Rattle.octets.proofs.ChoiceLaws.{both-first, both-second, both-false, both-none, not-not}
 use Rattle.octets.proofs.SameLaws.{same-true, same-refl}
 use Rattle.octets.proofs.PartLaws.{length-splice, byte-apart}
 use Rattle.octets.proofs.FieldRun.{front-placed, front-later}
@@ -21,7 +21,7 @@ use Rattle.actions.specs.declared.Action.{Action}
 use Rattle.actions.specs.declared.Action.the-variants.{Newt}
 use Rattle.actions.specs.declared.Checked.{Checked}
 use Rattle.actions.specs.declared.Checked.the-variants.{Value}
-use Rattle.actions.specs.Actions.{isFull, isNew, writesLine, repeatsTime, nextStatus}
+use Rattle.actions.specs.Actions.{isFull, isNew, repeatsTime, nextStatus}
 use Rattle.actions.specs.Statuses.{live, ported, noStep}
 use Rattle.actions.proofs.KindLaws.{is-newt, old-if-repeats}
 use Rattle.elements.specs.Codes.{uti}
@@ -45,10 +45,10 @@ use Rattle.submission.specs.Verdicts.{ledgerShort, capWrong, ledgerWrong
 use Rattle.submission.specs.Opening.{Limits, openingRules, openingVerdict, opened}
 use Rattle.submission.specs.Lent.{Lent}
 use Rattle.submission.specs.Status.{statusRules, asked}
-use Rattle.submission.specs.Submission.{submitted, swapOf, actionIn, rowRight, hasWrongRow, isNotAdmitted, hasOtherTime, findsFull, findsSpent, swapRules, rulesIn, submissionRules, rulesOn, verdictOn, maskedTerms, termsFor, placeFor, rowFor, ledgerFor, lineFor, tapeFor}
+use Rattle.submission.specs.Submission.{submitted, swapOf, actionIn, lineDueIn, rowRight, hasWrongRow, isNotAdmitted, hasOtherTime, findsFull, findsSpent, swapRules, afterRules, submissionRules, rulesOn, verdictOn, maskedTerms, termsFor, placeFor, rowFor, ledgerFor, lineFor, tapeFor}
 use Rattle.submission.specs.Demand2.{Verdict-exactly, Checking-order, RightRow, RulesAccept, Accepted-exactly, Outside, LedgerWritten, TapeWritten, Acceptance-writes, OpeningExactly, Opening-exactly, Opening-passes, Opening-writes, QuestionExactly, Question-exactly}
-use Rattle.submission.proofs.Acceptance.{numbers-differ, Accepted, accepted-answer, step-known, HasPlace, has-place, tape-room, row-right as passed-row, status-test, time-test, message-passes, room-test, spent-test}
-use Rattle.submission.proofs.Lookup.{row-whole, length-shown, length-after, ledger-length, new-place, rows-raised, next-raised, row-written}
+use Rattle.submission.proofs.Acceptance.{numbers-differ, Admitted, Accepted, accepted-answer, step-known, HasPlace, has-place, tape-room, row-right as passed-row, status-test, time-test, message-passes, room-test}
+use Rattle.submission.proofs.Lookup.{old-unless-due, new-due, same-terms, row-whole, length-shown, length-after, ledger-length, new-place, old-place, rows-raised, next-raised, row-written}
 use Rattle.submission.proofs.Outcome.{when-accepted, verdict-is}
 use Rattle.submission.proofs.Opened.{long-enough, start-is, start-right}
 use Rattle.submission.proofs.Demand1.{element-is}
@@ -112,9 +112,10 @@ module _ (limits : Limits) (lent : Lent) (m : Bytes) where
   l = lent .ledger
 
   rules-accept : submitted limits lent m .verdict ≡ 0 → RulesAccept limits lent m
-  unfolding hasOtherTime verdict
+  unfolding hasOtherTime findsSpent verdict
   rules-accept v =
-      let c : Accepted limits lent m = when-accepted limits lent m v in
+      let w : Accepted limits lent m = when-accepted limits lent m v in
+      let c : Admitted limits lent m = w .admitted in
       let a : Action = c .action in
       record {
         action = a;
@@ -126,7 +127,7 @@ module _ (limits : Limits) (lent : Lent) (m : Bytes) where
         step = eqb-false _ _ (status-test c);
         time = λ k. same-true _ _ (not-not _ (both-false (repeatsTime a) _ (time-test c) k)) ∙ known-time l (swapOf m) a (status-test c) k;
         room = λ k. eqb-false _ _ (both-false (isNew a) _ (room-test c) k);
-        spare = λ k. eqb-false _ _ (both-false (writesLine a) _ (spent-test c) k);
+        spare = λ k. eqb-false _ _ (both-false (lineDueIn a l m) _ (w .spare) k);
       }
 
   module _ (s : RulesAccept limits lent m) where
@@ -146,20 +147,20 @@ module _ (limits : Limits) (lent : Lent) (m : Bytes) where
     unfolding findsFull headerOf
     room-found = not-where (isNew (s .action)) _ (λ k. ne-eqb _ _ (s .room k))
 
-    identifier-found : findsSpent (s .action) (headerOf l) ≡ false
-    unfolding findsSpent headerOf
-    identifier-found = not-where (writesLine (s .action)) _ (λ k. ne-eqb _ _ (s .spare k))
+    identifier-found : findsSpent (lineDueIn (s .action) l m) (nextIdentifier l) ≡ false
+    unfolding findsSpent
+    identifier-found = not-where (lineDueIn (s .action) l m) _ (λ k. ne-eqb _ _ (s .spare k))
 
     message-right : AllPassed (rulesFor (Value (s .action)) (limits .longest) m)
     message-right =
         subst (λ (r : Checked). AllPassed (rulesFor r (limits .longest) m)) (s .reads)
         (message.accepted-exactly (limits .longest) m .0 (ap (λ v. v .0) (s .message)))
 
-    front-passed : firstBroken (submissionRules limits (Value (s .action)) lent m) ≡ firstBroken (rulesFor (Value (s .action)) (limits .longest) m ++ rulesIn (s .action) l m)
+    front-passed : firstBroken (submissionRules limits (Value (s .action)) lent m) ≡ firstBroken (rulesFor (Value (s .action)) (limits .longest) m ++ afterRules (Value (s .action)) l m)
     unfolding submissionRules firstBroken
     front-passed = rw (header-right (limits .largest) l (s .header), le-ltb (length (lent .buffers .tape)) lineSize (s .tape))
 
-    swap-passed : firstBroken (rulesIn (s .action) l m) ≡ (0, 0)
+    swap-passed : firstBroken (afterRules (Value (s .action)) l m) ≡ (0, 0)
     unfolding swapRules firstBroken headerOf
     swap-passed = rw (right-found, admitted, same-time, room-found, identifier-found)
 
@@ -168,7 +169,7 @@ module _ (limits : Limits) (lent : Lent) (m : Bytes) where
     all-passed-on =
         ap (λ r. firstBroken (submissionRules limits r lent m)) (s .reads)
         ∙ front-passed
-        ∙ passed-then (rulesFor (Value (s .action)) (limits .longest) m) (rulesIn (s .action) l m) message-right
+        ∙ passed-then (rulesFor (Value (s .action)) (limits .longest) m) (afterRules (Value (s .action)) l m) message-right
         ∙ swap-passed
 
     submission-accepts : submitted limits lent m .verdict ≡ 0
@@ -189,7 +190,7 @@ module _ {largest : ℕ} {l m : Bytes} {a : Action} (f : HasPlace largest l m a)
   shown : length (termsFor a l m) ≡ termsSize
   shown = length-shown f small
 
-  row-is : rowAt (ledgerFor a l m) (placeFor a l m) ≡ rowAfter a (nextStatus a (swapStatus l (swapOf m))) (swapOf m) (nextIdentifier l) (termsFor a l m) (rowAt l (placeFor a l m))
+  row-is : rowAt (ledgerFor a l m) (placeFor a l m) ≡ rowAfter a (lineDueIn a l m) (nextStatus a (swapStatus l (swapOf m))) (swapOf m) (nextIdentifier l) (termsFor a l m) (rowAt l (placeFor a l m))
   unfolding rowFor
   row-is = row-written f small
 
@@ -199,33 +200,34 @@ module _ {largest : ℕ} {l m : Bytes} {a : Action} (f : HasPlace largest l m a)
   new-row e =
       let is : a ≡ Newt = is-newt a e in
       let none : isKnown l (swapOf m) ≡ false = f .free e in
-      ap (rowAt (ledgerFor a l m)) (sym (new-place f small e)) ∙ row-is ∙ rw (is, none)
+      ap (rowAt (ledgerFor a l m)) (sym (new-place f small e)) ∙ row-is ∙ rw (new-due a l m e, is, none)
 
-  own-terms : (b : Bool) → isFull a ≡ b → choose b (termsFor a l m) (storedTerms (rowAt l (placeFor a l m))) ≡ choose b (maskedTerms (capsIn l) m) (storedTerms (rowAt l (placeFor a l m)))
+  own-terms : (d b : Bool) → lineDueIn a l m ≡ d → isFull a ≡ b → choose (both d b) (termsFor a l m) (storedTerms (rowAt l (placeFor a l m))) ≡ choose b (maskedTerms (capsIn l) m) (storedTerms (rowAt l (placeFor a l m)))
   unfolding termsFor
-  own-terms true e = rw e
-  own-terms false e = refl
+  own-terms true true g e = rw e
+  own-terms false true g e = sym (same-terms a l m e g ∙ ap (λ k. storedTerms (rowAt l k)) (sym (old-place f small (old-unless-due a l m g))))
+  own-terms d false g e = rw (both-none d false refl)
 
   -- every other byte
   fits : rowStart (placeFor a l m) + length (rowFor a l m) ≤ length l
   fits = omega (arith, length-after f small, rows-fit largest l (f .header), f .place)
 
-  bytes-kept : (i : ℕ) → Outside (rowStart (placeFor a l m)) rowSize i → (isNew a ≡ true → Outside rowsAt u32 i) → (writesLine a ≡ true → Outside nextAt u64 i) → getD (ledgerFor a l m) i 0 ≡ getD l i 0
+  bytes-kept : (i : ℕ) → Outside (rowStart (placeFor a l m)) rowSize i → (isNew a ≡ true → Outside rowsAt u32 i) → (lineDueIn a l m ≡ true → Outside nextAt u64 i) → getD (ledgerFor a l m) i 0 ≡ getD l i 0
   unfolding ledgerFor
   bytes-kept i outside p q =
       let same : length (splice l (rowStart (placeFor a l m)) (rowFor a l m)) ≡ length l = length-splice l (rowFor a l m) (rowStart (placeFor a l m)) fits in
-      raised-byte a (rowsInUse l) (nextIdentifier l) (splice l (rowStart (placeFor a l m)) (rowFor a l m)) (omega (arith, same, f .header .long)) i p q
+      raised-byte a (lineDueIn a l m) (rowsInUse l) (nextIdentifier l) (splice l (rowStart (placeFor a l m)) (rowFor a l m)) (omega (arith, same, f .header .long)) i p q
       ∙ byte-apart l (rowFor a l m) (rowStart (placeFor a l m)) i fits (λ b. omega (arith, length-after f small, outside b))
 
   ledger-written : LedgerWritten a l m (ledgerFor a l m)
   ledger-written =
       record {
         whole = λ e. rw (new-row e) (row-placed live (swapOf m) (nextIdentifier l) (maskedTerms (capsIn l) m));
-        status = ap statusOf row-is ∙ after-status a _ (swapOf m) (nextIdentifier l) (termsFor a l m) old shown whole;
-        identifier = ap identifierOf row-is ∙ after-identifier a _ (swapOf m) (nextIdentifier l) (termsFor a l m) old shown whole (omega (arith, f .header .next));
-        terms = ap storedTerms row-is ∙ after-terms a _ (swapOf m) (nextIdentifier l) (termsFor a l m) old shown whole ∙ own-terms (isFull a) refl;
-        name = λ e. rw row-is (after-kept a _ (swapOf m) (nextIdentifier l) (termsFor a l m) old shown whole e lengthAt (identifierAt - lengthAt) (omega arith) (omega arith));
-        tail = λ e. rw row-is (after-tail a _ (swapOf m) (nextIdentifier l) (termsFor a l m) old shown whole e);
+        status = ap statusOf row-is ∙ after-status a (lineDueIn a l m) _ (swapOf m) (nextIdentifier l) (termsFor a l m) old shown whole;
+        identifier = ap identifierOf row-is ∙ after-identifier a (lineDueIn a l m) _ (swapOf m) (nextIdentifier l) (termsFor a l m) old shown whole (omega (arith, f .header .next));
+        terms = ap storedTerms row-is ∙ after-terms a (lineDueIn a l m) _ (swapOf m) (nextIdentifier l) (termsFor a l m) old shown whole ∙ own-terms (lineDueIn a l m) (isFull a) refl refl;
+        name = λ e. rw row-is (after-kept a (lineDueIn a l m) _ (swapOf m) (nextIdentifier l) (termsFor a l m) old shown whole e lengthAt (identifierAt - lengthAt) (omega arith) (omega arith));
+        tail = λ e. rw row-is (after-tail a (lineDueIn a l m) _ (swapOf m) (nextIdentifier l) (termsFor a l m) old shown whole e);
         rows = rows-raised f small;
         next = next-raised f small;
         long = ledger-length f small;
@@ -251,21 +253,22 @@ module _ (a : Action) (l t m : Bytes) (room : lineSize ≤ length t) where
   later-bytes = front-later _ lineSize t (line-in-place a (nextIdentifier l) previous m (termsFor a l m))
 
   tape-written : TapeWritten a l t m (tapeFor a l t m)
-  tape-written = by (writesLine a) refl
+  tape-written = by (lineDueIn a l m) refl
     where
-      by : (b : Bool) → writesLine a ≡ b → TapeWritten a l t m (choose b (splice t 0 (lineFor a l m)) t)
+      by : (b : Bool) → lineDueIn a l m ≡ b → TapeWritten a l t m (choose b (splice t 0 (lineFor a l m)) t)
       by true e = record { line = λ w. placed; later = later-bytes; long = length-splice t (lineFor a l m) 0 line-fits; none = λ w. absurd (false≢true (sym w ∙ e)) }
       by false e = record { line = λ w. absurd (false≢true (sym e ∙ w)); later = refl; long = refl; none = λ w. refl }
 
 pub acceptance-writes : Acceptance-writes
 acceptance-writes limits small lent m v =
-    let c : Accepted limits lent m = when-accepted limits lent m v in
+    let w : Accepted limits lent m = when-accepted limits lent m v in
+    let c : Admitted limits lent m = w .admitted in
     record {
       action = c .action;
       reads = c .reads;
-      ledger = rw (ap (λ s. s .lent .ledger) (accepted-answer c)) (ledger-written (has-place c) small);
-      tape = rw (ap (λ s. s .lent .buffers .tape) (accepted-answer c)) (tape-written (c .action) (lent .ledger) (lent .buffers .tape) m (tape-room c));
-      identifier = ap (λ s. s .identifier) (accepted-answer c);
+      ledger = rw (ap (λ s. s .lent .ledger) (accepted-answer w)) (ledger-written (has-place c) small);
+      tape = rw (ap (λ s. s .lent .buffers .tape) (accepted-answer w)) (tape-written (c .action) (lent .ledger) (lent .buffers .tape) m (tape-room c));
+      identifier = ap (λ s. s .identifier) (accepted-answer w);
     }
 
 -- ---- opening

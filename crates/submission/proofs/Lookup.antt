@@ -1,6 +1,6 @@
 -- The ledger after an accepted message: its header's numbers, the row of the message's swap, and that of any other. Assumes nothing.
 use Prim.Native.Nat.{ℕ, suc, _+_, _^_, _<_, _≤_}
-use mathlib.Core.Bool.{Bool, true, false}
+use mathlib.Core.Bool.{Bool, true, false, false≢true}
 use mathlib.Core.Path.{_≡_, refl, sym, ap, _∙_, subst}
 use mathlib.Core.Logic.{_↔_}
 use native.Mathlib.Numerals.{add-one}
@@ -21,8 +21,8 @@ use Rattle.octets.proofs.PartLaws.{length-part}
 use Rattle.terms.specs.Terms.{termsSize}
 use Rattle.terms.proofs.TermLaws.{length-terms}
 use Rattle.actions.specs.declared.Action.{Action}
-use Rattle.actions.specs.Actions.{isFull, isNew, writesLine, nextStatus}
-use Rattle.actions.proofs.KindLaws.{old-unless-full}
+use Rattle.actions.specs.Actions.{isFull, isNew, nextStatus}
+use Rattle.actions.proofs.KindLaws.{old-unless-full, line-if-full}
 use Rattle.ledger.specs.declared.header.Caps.{Caps}
 use Rattle.ledger.specs.Layout.{u32, lengthAt, utiAt, utiSize, termsAt, headerSize, rowSize, rowStart}
 use Rattle.ledger.specs.Header.{rowsInUse, nextIdentifier, capacityIn, capsIn}
@@ -32,7 +32,7 @@ use Rattle.ledger.proofs.RightHeader.{rows-fit, capacity-most}
 use Rattle.ledger.proofs.RowAfterLaws.{length-row-after}
 use Rattle.ledger.proofs.RowFields.{new-holds, after-holds}
 use Rattle.ledger.proofs.ReadBack.{row-length, row-rows, row-next, row-caps, row-same, row-other, raised-caps, raised-row, raised-length, raised-rows, raised-next}
-use Rattle.submission.specs.Submission.{swapOf, capOn, maskedTerms, termsFor, placeFor, rowFor, ledgerFor}
+use Rattle.submission.specs.Submission.{swapOf, lineDueIn, capOn, maskedTerms, termsFor, placeFor, rowFor, ledgerFor}
 use Rattle.submission.proofs.Acceptance.{HasPlace}
 
 -- ---- a row holds one UTI
@@ -62,6 +62,25 @@ pub length-stored : (r : Bytes) → length r ≡ rowSize → length (storedTerms
 unfolding storedTerms
 length-stored r size = length-part r termsAt termsSize (omega arith)
 
+-- ---- whether a line is due
+
+-- NEWT has a line
+pub old-unless-due : (a : Action) (l m : Bytes) → lineDueIn a l m ≡ false → isNew a ≡ false
+unfolding lineDueIn
+old-unless-due a l m e = old-unless-full a (line-if-full a e)
+
+pub new-due : (a : Action) (l m : Bytes) → isNew a ≡ true → lineDueIn a l m ≡ true
+new-due a l m e = by (lineDueIn a l m) refl
+  where
+    by : (b : Bool) → lineDueIn a l m ≡ b → lineDueIn a l m ≡ true
+    by true d = d
+    by false d = absurd (false≢true (sym (old-unless-due a l m d) ∙ e))
+
+-- a full message without a line has the stored terms
+pub same-terms : (a : Action) (l m : Bytes) → isFull a ≡ true → lineDueIn a l m ≡ false → maskedTerms (capsIn l) m ≡ storedTerms (swapRow l (swapOf m))
+unfolding lineDueIn
+same-terms a l m full e = absurd (false≢true (sym (line-if-full a e) ∙ full))
+
 -- ---- the ledger after
 
 module _ {largest : ℕ} {l m : Bytes} {a : Action} (f : HasPlace largest l m a) (small : largest < 256 ^ u32) where
@@ -85,7 +104,7 @@ module _ {largest : ℕ} {l m : Bytes} {a : Action} (f : HasPlace largest l m a)
 
   pub length-after : length (rowFor a l m) ≡ rowSize
   unfolding rowFor
-  length-after = length-row-after a _ (swapOf m) (nextIdentifier l) (termsFor a l m) (rowAt l (placeFor a l m)) length-shown (row-whole (placeFor a l m) (f .place))
+  length-after = length-row-after a (lineDueIn a l m) _ (swapOf m) (nextIdentifier l) (termsFor a l m) (rowAt l (placeFor a l m)) length-shown (row-whole (placeFor a l m) (f .place))
 
   abbrev stored : Bytes
   stored = splice l (rowStart (placeFor a l m)) (rowFor a l m)
@@ -99,7 +118,7 @@ module _ {largest : ℕ} {l m : Bytes} {a : Action} (f : HasPlace largest l m a)
   -- nothing grows or shrinks
   pub ledger-length : length (ledgerFor a l m) ≡ length l
   unfolding ledgerFor
-  ledger-length = raised-length a _ _ _ header-there ∙ row-length l (rowFor a l m) (placeFor a l m) length-after here
+  ledger-length = raised-length a (lineDueIn a l m) _ _ _ header-there ∙ row-length l (rowFor a l m) (placeFor a l m) length-after here
 
   -- NEWT takes the next row
   pub new-place : isNew a ≡ true → placeFor a l m ≡ rowsInUse l
@@ -113,26 +132,26 @@ module _ {largest : ℕ} {l m : Bytes} {a : Action} (f : HasPlace largest l m a)
   pub rows-raised : rowsInUse (ledgerFor a l m) ≡ choose (isNew a) (rowsInUse l + 1) (rowsInUse l)
   unfolding ledgerFor
   rows-raised =
-      raised-rows a (rowsInUse l) (nextIdentifier l) stored header-there (λ e. omega (arith, f .place, new-place e, capacity-most largest l (f .header)))
+      raised-rows a (lineDueIn a l m) (rowsInUse l) (nextIdentifier l) stored header-there (λ e. omega (arith, f .place, new-place e, capacity-most largest l (f .header)))
       ∙ ap (choose (isNew a) (rowsInUse l + 1)) (row-rows l (rowFor a l m) (placeFor a l m) length-after here)
 
-  pub next-raised : nextIdentifier (ledgerFor a l m) ≡ choose (writesLine a) (nextIdentifier l + 1) (nextIdentifier l)
+  pub next-raised : nextIdentifier (ledgerFor a l m) ≡ choose (lineDueIn a l m) (nextIdentifier l + 1) (nextIdentifier l)
   unfolding ledgerFor
   next-raised =
-      raised-next a (rowsInUse l) (nextIdentifier l) stored header-there (omega (arith, f .header .next))
-      ∙ ap (choose (writesLine a) (nextIdentifier l + 1)) (row-next l (rowFor a l m) (placeFor a l m) length-after here)
+      raised-next a (lineDueIn a l m) (rowsInUse l) (nextIdentifier l) stored header-there (omega (arith, f .header .next))
+      ∙ ap (choose (lineDueIn a l m) (nextIdentifier l + 1)) (row-next l (rowFor a l m) (placeFor a l m) length-after here)
 
   pub caps-kept : capsIn (ledgerFor a l m) ≡ capsIn l
   unfolding ledgerFor
-  caps-kept = raised-caps a (rowsInUse l) (nextIdentifier l) stored header-there ∙ row-caps l (rowFor a l m) (placeFor a l m) length-after here
+  caps-kept = raised-caps a (lineDueIn a l m) (rowsInUse l) (nextIdentifier l) stored header-there ∙ row-caps l (rowFor a l m) (placeFor a l m) length-after here
 
   pub row-written : rowAt (ledgerFor a l m) (placeFor a l m) ≡ rowFor a l m
   unfolding ledgerFor
-  row-written = raised-row a (rowsInUse l) (nextIdentifier l) stored header-there (placeFor a l m) ∙ row-same l (rowFor a l m) (placeFor a l m) length-after here
+  row-written = raised-row a (lineDueIn a l m) (rowsInUse l) (nextIdentifier l) stored header-there (placeFor a l m) ∙ row-same l (rowFor a l m) (placeFor a l m) length-after here
 
   row-kept : (j : ℕ) → (j ≡ placeFor a l m → ⊥) → rowAt (ledgerFor a l m) j ≡ rowAt l j
   unfolding ledgerFor
-  row-kept j differ = raised-row a (rowsInUse l) (nextIdentifier l) stored header-there j ∙ row-other l (rowFor a l m) (placeFor a l m) length-after here j differ
+  row-kept j differ = raised-row a (lineDueIn a l m) (rowsInUse l) (nextIdentifier l) stored header-there j ∙ row-other l (rowFor a l m) (placeFor a l m) length-after here j differ
 
   -- ---- which UTIs the rows hold
 
@@ -144,7 +163,7 @@ module _ {largest : ℕ} {l m : Bytes} {a : Action} (f : HasPlace largest l m a)
       by : (b : Bool) → eqb j (placeFor a l m) ≡ b → holdsUti v (rowAt (ledgerFor a l m) j) ≡ holdsUti v (rowAt l j)
       by true g =
           let at : j ≡ placeFor a l m = eqb-true _ _ g in
-          rw (at) (ap (holdsUti v) row-written ∙ after-holds a _ (swapOf m) (nextIdentifier l) (termsFor a l m) (rowAt l (placeFor a l m)) length-shown (row-whole (placeFor a l m) (f .place)) e v h)
+          rw (at) (ap (holdsUti v) row-written ∙ after-holds a (lineDueIn a l m) _ (swapOf m) (nextIdentifier l) (termsFor a l m) (rowAt l (placeFor a l m)) length-shown (row-whole (placeFor a l m) (f .place)) e v h)
       by false g = ap (holdsUti v) (row-kept j (eqb-false _ _ g))
 
   old-places : isNew a ≡ false → (v : Bytes) → length v ≤ utiSize → placeOf (ledgerFor a l m) v ≡ placeOf l v
@@ -158,7 +177,7 @@ module _ {largest : ℕ} {l m : Bytes} {a : Action} (f : HasPlace largest l m a)
   unfolding rowFor
   new-row-holds e v =
       let r : rowAt (ledgerFor a l m) (rowsInUse l) ≡ rowFor a l m = ap (rowAt (ledgerFor a l m)) (sym (new-place e)) ∙ row-written in
-      let is : rowFor a l m ≡ newRow (nextStatus a (swapStatus l (swapOf m))) (swapOf m) (nextIdentifier l) (termsFor a l m) = rw e in
+      let is : rowFor a l m ≡ newRow (nextStatus a (swapStatus l (swapOf m))) (swapOf m) (nextIdentifier l) (termsFor a l m) = rw (new-due a l m e, e) in
       rw (r, is) (new-holds _ (swapOf m) (nextIdentifier l) (termsFor a l m) (f .uti) v)
 
   -- the rows in use before hold what they held

@@ -12,13 +12,12 @@ use Rattle.octets.specs.Choice.{choose}
 use Rattle.octets.specs.Part.{splice}
 use Rattle.octets.proofs.PartLaws.{part-at}
 use Rattle.actions.specs.declared.Action.{Action}
-use Rattle.actions.specs.Actions.{writesLine}
 use Rattle.ledger.specs.Layout.{lineSize}
 use Rattle.ledger.specs.Header.{nextIdentifier}
 use Rattle.ledger.proofs.LineLaws.{length-line}
 use Rattle.submission.specs.Opening.{Limits}
 use Rattle.submission.specs.Lent.{Lent}
-use Rattle.submission.specs.Submission.{verdictOn, lineFor, tapeFor, Submitted, accepted, refused, submitted}
+use Rattle.submission.specs.Submission.{lineDueIn, verdictOn, lineFor, tapeFor, Submitted, accepted, refused, submitted}
 use Rattle.submission.proofs.Acceptance.{Accepted, as-accepted, accepted-answer, is-refused}
 
 module _ (limits : Limits) (lent : Lent) (m : Bytes) where
@@ -44,7 +43,7 @@ module _ (limits : Limits) (lent : Lent) (m : Bytes) where
   when-refused n v = is-refused limits lent m n (sym verdict-is ∙ v)
 
   -- what holds of an acceptance and of a refusal holds of the answer
-  pub by-outcome : (P : Submitted → Type 0) → ((c : Accepted limits lent m) → P (accepted (c .action) lent m)) → ((v : ℕ × ℕ) → eqb (v .0) 0 ≡ false → P (refused v lent)) → P answered
+  pub by-outcome : (P : Submitted → Type 0) → ((c : Accepted limits lent m) → P (accepted (c .admitted .action) lent m)) → ((v : ℕ × ℕ) → eqb (v .0) 0 ≡ false → P (refused v lent)) → P answered
   by-outcome P takes leaves = by (answered .verdict) refl
     where
       by : (n : ℕ) → answered .verdict ≡ n → P answered
@@ -52,9 +51,9 @@ module _ (limits : Limits) (lent : Lent) (m : Bytes) where
       by (suc n) v = rw (when-refused n v) (leaves found (ne-eqb (found .0) 0 (λ e. omega (arith, e, v, verdict-is))))
 
 -- the line in the tape buffer
-pub accepted-line : (a : Action) (l t m : Bytes) → lineSize ≤ length t → choose (writesLine a) (take lineSize (tapeFor a l t m)) [] ≡ choose (writesLine a) (lineFor a l m) []
+pub accepted-line : (a : Action) (l t m : Bytes) → lineSize ≤ length t → choose (lineDueIn a l m) (take lineSize (tapeFor a l t m)) [] ≡ choose (lineDueIn a l m) (lineFor a l m) []
 unfolding lineFor
-accepted-line a l t m room = by (writesLine a) _ (length-line a (nextIdentifier l) _ m _)
+accepted-line a l t m room = by (lineDueIn a l m) _ (length-line a (nextIdentifier l) _ m _)
   where
     by : (b : Bool) (line : Bytes) → length line ≡ lineSize → choose b (take lineSize (choose b (splice t 0 line) t)) [] ≡ choose b line []
     by true line size = rw size at (part-at t line 0 (omega arith))

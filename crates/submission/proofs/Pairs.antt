@@ -19,7 +19,7 @@ use Rattle.actions.specs.Actions.{actionOf, isFull, writesLine}
 use Rattle.ledger.specs.declared.header.Caps.{Caps}
 use Rattle.ledger.specs.Line.{line}
 use Rattle.submission.specs.Opening.{Limits}
-use Rattle.submission.specs.Submission.{swapOf, actionIn, maskedTerms}
+use Rattle.submission.specs.Submission.{swapOf, actionIn, lineDueIn, maskedTerms}
 use Rattle.submission.specs.History.{Call, messageOf, answerTo, ledgerAfter, hasAction, ofKind, publishes, Judgement, judgements}
 use Rattle.submission.specs.Demand3.{messageAt, verdictAt, AcceptedAt, maskedTermsAt, SameShown, Alike}
 use Rattle.submission.specs.Published.{published, lastIdentifier, lastMasked, publishedTerms, lineBy, publishedLine, publishedTape}
@@ -146,12 +146,12 @@ module _ (caps : Caps) (limits : Limits) (c₁ c₂ : Call) (h₁ h₂ : List Ca
   partners v = n .partners 0 (omega arith, v)
 
   publish-alike : publishes limits l₁ c₁ ≡ publishes limits l₂ c₂
-  unfolding publishes
+  unfolding publishes lineDueIn
   publish-alike = same-publishes _ _ (messageOf c₁) (messageOf c₂) same-verdict (λ v. partners v .shown)
 
   accepted-first : publishes limits l₁ c₁ ≡ true → answerTo limits l₁ c₁ .verdict ≡ 0
   unfolding publishes
-  accepted-first e = eqb-true _ 0 (both-first (eqb (answerTo limits l₁ c₁ .verdict) 0) (hasAction writesLine (messageOf c₁)) e)
+  accepted-first e = eqb-true _ 0 (both-first (eqb (answerTo limits l₁ c₁ .verdict) 0) (hasAction (λ a. lineDueIn a l₁ (messageOf c₁)) (messageOf c₁)) e)
 
   named-rest : Named (judgements limits (ledgerAfter limits l₁ c₁) h₁) (judgements limits (ledgerAfter limits l₂ c₂) h₂) es fs
   unfolding judgements

@@ -14,8 +14,8 @@ use Rattle.octets.proofs.ChoiceLaws.{both-last, both-none}
 use Rattle.octets.proofs.SameLaws.{same-true, same-apart}
 use Rattle.actions.specs.declared.Action.{Action}
 use Rattle.actions.specs.declared.Checked.the-variants.{Value}
-use Rattle.actions.specs.Actions.{isFull, isNew, writesLine}
-use Rattle.actions.proofs.KindLaws.{old-unless-full, line-if-full}
+use Rattle.actions.specs.Actions.{isFull, isNew}
+use Rattle.actions.proofs.KindLaws.{old-unless-full}
 use Rattle.ledger.specs.declared.header.Caps.{Caps}
 use Rattle.ledger.specs.Layout.{u32, utiSize, lineSize}
 use Rattle.ledger.specs.Header.{nextIdentifier, capsIn}
@@ -23,11 +23,11 @@ use Rattle.ledger.specs.Rows.{rowAt, identifierOf, storedTerms, isKnown, swapRo
 use Rattle.ledger.specs.Line.{line}
 use Rattle.ledger.proofs.RowFields.{after-identifier, after-terms}
 use Rattle.submission.specs.Opening.{Limits}
-use Rattle.submission.specs.Submission.{swapOf, actionIn, maskedTerms, termsFor, placeFor, rowFor, ledgerFor, lineFor}
+use Rattle.submission.specs.Submission.{swapOf, actionIn, lineDueIn, maskedTerms, termsFor, placeFor, rowFor, ledgerFor, lineFor}
 use Rattle.submission.specs.History.{Call, submit, messageOf, ledgerAfter, hasAction, publishes, lineOf, tape}
 use Rattle.submission.specs.Published.{published, lastIdentifier, lastMasked, publishedTerms, publishedLine, publishedTape}
 use Rattle.submission.proofs.Acceptance.{HasPlace, has-place, tape-room}
-use Rattle.submission.proofs.Lookup.{row-whole, length-shown, old-place, next-raised, caps-kept, own-row, other-kept}
+use Rattle.submission.proofs.Lookup.{old-unless-due, row-whole, length-shown, old-place, next-raised, caps-kept, own-row, other-kept}
 use Rattle.submission.proofs.Outcome.{by-outcome, accepted-line}
 
 -- a ledger holds what the published messages say, the latest first: the next identifier is one more than their number, and each row that is found has the
@@ -60,19 +60,20 @@ module _ {largest : ℕ} (small : largest < 256 ^ u32) {caps : Caps} {l m : Byte
       by true e = new-line a _ _ _ m _ e
       by false e = rw (f .known e, h .identifiers (swapOf m) (f .uti) (f .known e))
 
-  row-identifier : identifierOf (rowFor a l m) ≡ choose (writesLine a) (nextIdentifier l) (identifierOf (rowAt l (placeFor a l m)))
+  row-identifier : identifierOf (rowFor a l m) ≡ choose (lineDueIn a l m) (nextIdentifier l) (identifierOf (rowAt l (placeFor a l m)))
   unfolding rowFor
-  row-identifier = after-identifier a _ (swapOf m) (nextIdentifier l) (termsFor a l m) (rowAt l (placeFor a l m)) (length-shown f small) (row-whole f small (placeFor a l m) (f .place)) (omega (arith, f .header .next))
+  row-identifier = after-identifier a (lineDueIn a l m) _ (swapOf m) (nextIdentifier l) (termsFor a l m) (rowAt l (placeFor a l m)) (length-shown f small) (row-whole f small (placeFor a l m) (f .place)) (omega (arith, f .header .next))
 
-  row-terms : storedTerms (rowFor a l m) ≡ choose (isFull a) (maskedTerms (capsIn l) m) (storedTerms (rowAt l (placeFor a l m)))
+  row-terms : storedTerms (rowFor a l m) ≡ choose (both (lineDueIn a l m) (isFull a)) (maskedTerms (capsIn l) m) (storedTerms (rowAt l (placeFor a l m)))
   unfolding rowFor termsFor
   row-terms =
-      after-terms a _ (swapOf m) (nextIdentifier l) (termsFor a l m) (rowAt l (placeFor a l m)) (length-shown f small) (row-whole f small (placeFor a l m) (f .place))
-      ∙ by (isFull a) refl
+      after-terms a (lineDueIn a l m) _ (swapOf m) (nextIdentifier l) (termsFor a l m) (rowAt l (placeFor a l m)) (length-shown f small) (row-whole f small (placeFor a l m) (f .place))
+      ∙ by (lineDueIn a l m) (isFull a) refl
     where
-      by : (b : Bool) → isFull a ≡ b → choose b (termsFor a l m) (storedTerms (rowAt l (placeFor a l m))) ≡ choose b (maskedTerms (capsIn l) m) (storedTerms (rowAt l (placeFor a l m)))
-      by true e = rw e
-      by false e = refl
+      by : (d b : Bool) → isFull a ≡ b → choose (both d b) (termsFor a l m) (storedTerms (rowAt l (placeFor a l m))) ≡ choose (both d b) (maskedTerms (capsIn l) m) (storedTerms (rowAt l (placeFor a l m)))
+      by true true e = rw e
+      by true false e = refl
+      by false b e = refl
 
   -- a field of the rows that some actions write, none of which is NEWT where they do not
   still : {A : Type 0} (says last : Bytes → A) (w : Bool) (x : A) → (w ≡ false → isNew a ≡ false)
@@ -90,14 +91,14 @@ module _ {largest : ℕ} (small : largest < 256 ^ u32) {caps : Caps} {l m : Byte
       by false e = let k = other-kept f small u short (same-apart (swapOf m) u e) known in ap says (k .1) ∙ before u short (k .0)
 
   -- what the ledger holds after
-  after : (b : Bool) → writesLine a ≡ b → LedgerAgrees caps (ledgerFor a l m) (choose b (m ∷ earlier) earlier)
+  after : (b : Bool) → lineDueIn a l m ≡ b → LedgerAgrees caps (ledgerFor a l m) (choose b (m ∷ earlier) earlier)
   unfolding lastIdentifier lastMasked
   after b w =
       record {
         caps-are = caps-kept f small ∙ h .caps-are;
         next-is = next-raised f small ∙ rw (w, h .next-is, add-one) (next b);
-        identifiers = λ u short known. still identifierOf (λ v. lastIdentifier v earlier) (writesLine a) (nextIdentifier l) (λ z. old-unless-full a (line-if-full a z)) row-identifier (h .identifiers) u short known ∙ rw (w, h .next-is) (last u b);
-        terms = λ u short known. still storedTerms (λ v. lastMasked caps v earlier) (isFull a) (maskedTerms (capsIn l) m) (old-unless-full a) row-terms (h .terms) u short known ∙ rw (h .caps-are) (masked u b w);
+        identifiers = λ u short known. still identifierOf (λ v. lastIdentifier v earlier) (lineDueIn a l m) (nextIdentifier l) (old-unless-due a l m) row-identifier (h .identifiers) u short known ∙ rw (w, h .next-is) (last u b);
+        terms = λ u short known. still storedTerms (λ v. lastMasked caps v earlier) (both (lineDueIn a l m) (isFull a)) (maskedTerms (capsIn l) m) unless row-terms (h .terms) u short known ∙ rw (h .caps-are, w) (masked u b);
       }
     where
       next : (b : Bool) → choose b (suc (suc (length earlier))) (suc (length earlier)) ≡ suc (length (choose b (m ∷ earlier) earlier))
@@ -108,9 +109,17 @@ module _ {largest : ℕ} (small : largest < 256 ^ u32) {caps : Caps} {l m : Byte
       last u true = rw (both-last (sameBytes (swapOf m) u) true refl)
       last u false = rw (both-none (sameBytes (swapOf m) u) false refl)
 
-      masked : (u : Bytes) (b : Bool) → writesLine a ≡ b → choose (both (sameBytes (swapOf m) u) (isFull a)) (maskedTerms caps m) (lastMasked caps u earlier) ≡ lastMasked caps u (choose b (m ∷ earlier) earlier)
-      masked u true e = rw reads
-      masked u false e = rw (line-if-full a e, both-none (sameBytes (swapOf m) u) false refl)
+      masked : (u : Bytes) (b : Bool) → choose (both (sameBytes (swapOf m) u) (both b (isFull a))) (maskedTerms caps m) (lastMasked caps u earlier) ≡ lastMasked caps u (choose b (m ∷ earlier) earlier)
+      masked u true = rw reads
+      masked u false = rw (both-none (sameBytes (swapOf m) u) false refl)
+
+      -- NEWT has a line and is full
+      unless : both (lineDueIn a l m) (isFull a) ≡ false → isNew a ≡ false
+      unless z = by (lineDueIn a l m) refl z
+        where
+          by : (d : Bool) → lineDueIn a l m ≡ d → both d (isFull a) ≡ false → isNew a ≡ false
+          by true e z = old-unless-full a z
+          by false e z = old-unless-due a l m e
 
 -- ---- a history
 
@@ -119,8 +128,8 @@ module _ (limits : Limits) (small : limits .largest < 256 ^ u32) {caps : Caps} w
   pub kept-agreeing : {l : Bytes} (c : Call) {earlier : List Bytes} → LedgerAgrees caps l earlier → LedgerAgrees caps (ledgerAfter limits l c) (choose (publishes limits l c) (messageOf c ∷ earlier) earlier)
   unfolding publishes
   kept-agreeing {l} (submit m b) {earlier} h =
-      by-outcome limits (record { ledger = l; buffers = b }) m (λ s. LedgerAgrees caps (s .lent .ledger) (choose (both (eqb (s .verdict) 0) (hasAction writesLine m)) (m ∷ earlier) earlier))
-      (λ c. rw (c .reads) (after small h (c .reads) (has-place c) (writesLine (c .action)) refl))
+      by-outcome limits (record { ledger = l; buffers = b }) m (λ s. LedgerAgrees caps (s .lent .ledger) (choose (both (eqb (s .verdict) 0) (hasAction (λ a. lineDueIn a l m) m)) (m ∷ earlier) earlier))
+      (λ c. let d = c .admitted in rw (d .reads) (after small h (d .reads) (has-place d) (lineDueIn (d .action) l m) refl))
       (λ v z. rw z h)
 
   -- what it adds to the tape is the line that the published messages tell
@@ -128,8 +137,8 @@ module _ (limits : Limits) (small : limits .largest < 256 ^ u32) {caps : Caps} w
   unfolding lineOf publishes
   line-is-published {l} (submit m b) {earlier} h =
       by-outcome limits (record { ledger = l; buffers = b }) m
-      (λ s. choose (both (eqb (s .verdict) 0) (hasAction writesLine m)) (take lineSize (s .lent .buffers .tape)) [] ≡ choose (both (eqb (s .verdict) 0) (hasAction writesLine m)) (publishedLine caps earlier m) [])
-      (λ c. rw (c .reads) (accepted-line (c .action) l (b .tape) m (tape-room c) ∙ rw (line-published small h (c .reads) (has-place c))))
+      (λ s. choose (both (eqb (s .verdict) 0) (hasAction (λ a. lineDueIn a l m) m)) (take lineSize (s .lent .buffers .tape)) [] ≡ choose (both (eqb (s .verdict) 0) (hasAction (λ a. lineDueIn a l m) m)) (publishedLine caps earlier m) [])
+      (λ c. let d = c .admitted in rw (d .reads) (accepted-line (d .action) l (b .tape) m (tape-room d) ∙ rw (line-published small h (d .reads) (has-place d))))
       (λ v z. rw z)
 
   pub published-from : (cs : List Call) (l : Bytes) (earlier : List Bytes) → LedgerAgrees caps l earlier → tape limits l cs ≡ publishedTape caps earlier (published limits l cs)

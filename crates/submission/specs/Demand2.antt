@@ -12,7 +12,7 @@ use Rattle.octets.specs.Fields.{Placed}
 use Rattle.message.specs.Values.{value}
 use Rattle.actions.specs.declared.Action.{Action}
 use Rattle.actions.specs.declared.Checked.the-variants.{Value}
-use Rattle.actions.specs.Actions.{isFull, isNew, writesLine, repeatsTime, nextStatus}
+use Rattle.actions.specs.Actions.{isFull, isNew, repeatsTime, nextStatus}
 use Rattle.actions.specs.Statuses.{live, ported, noStep}
 use Rattle.elements.specs.Codes.{uti, executionTimestamp}
 use Rattle.elements.specs.Forms.{hasForm}
@@ -28,7 +28,7 @@ use Rattle.submission.specs.Verdicts.{ledgerShort, capWrong, ledgerWrong
 use Rattle.submission.specs.Opening.{Limits, opened}
 use Rattle.submission.specs.Lent.{Lent}
 use Rattle.submission.specs.Status.{asked}
-use Rattle.submission.specs.Submission.{Submitted, submitted, swapOf, actionIn, hasWrongRow, rulesOn, submissionRules, maskedTerms, termsFor, placeFor}
+use Rattle.submission.specs.Submission.{Submitted, submitted, swapOf, actionIn, lineDueIn, hasWrongRow, rulesOn, submissionRules, maskedTerms, termsFor, placeFor}
 
 -- ---- the verdict of a submission
 
@@ -61,7 +61,7 @@ pub record RulesAccept (limits : Limits) (lent : Lent) (m : Bytes) : Type 0 wher
   pub step : nextStatus action (swapStatus (lent .ledger) (swapOf m)) ≡ noStep → ⊥
   pub time : repeatsTime action ≡ true → value executionTimestamp m ≡ storedTime (swapRow (lent .ledger) (swapOf m))
   pub room : isNew action ≡ true → rowsInUse (lent .ledger) ≡ capacityIn (lent .ledger) → ⊥
-  pub spare : writesLine action ≡ true → nextIdentifier (lent .ledger) ≡ identifierLimit → ⊥
+  pub spare : lineDueIn action (lent .ledger) m ≡ true → nextIdentifier (lent .ledger) ≡ identifierLimit → ⊥
 
 abbrev pub Accepted-exactly : Type 0
 Accepted-exactly = (limits : Limits) (lent : Lent) (m : Bytes) → (submitted limits lent m .verdict ≡ 0) ↔ RulesAccept limits lent m
@@ -76,9 +76,9 @@ Outside at n i = at ≤ i → at + n ≤ i
 pub record LedgerWritten (a : Action) (l m l′ : Bytes) : Type 0 where
   -- NEWT writes the whole next row, field by field
   pub whole : isNew a ≡ true → Placed statusAt (rowFields live (swapOf m) (nextIdentifier l) (maskedTerms (capsIn l) m)) (rowAt l′ (rowsInUse l))
-  -- every action writes the status; those with a line the identifier; full ones the terms
+  -- every action writes the status, a line the identifier, a full action the terms
   pub status : statusOf (rowAt l′ (placeFor a l m)) ≡ nextStatus a (swapStatus l (swapOf m))
-  pub identifier : identifierOf (rowAt l′ (placeFor a l m)) ≡ choose (writesLine a) (nextIdentifier l) (identifierOf (rowAt l (placeFor a l m)))
+  pub identifier : identifierOf (rowAt l′ (placeFor a l m)) ≡ choose (lineDueIn a l m) (nextIdentifier l) (identifierOf (rowAt l (placeFor a l m)))
   pub terms : storedTerms (rowAt l′ (placeFor a l m)) ≡ choose (isFull a) (maskedTerms (capsIn l) m) (storedTerms (rowAt l (placeFor a l m)))
   -- only NEWT writes length, UTI and padding, and the last bytes
   pub name :
@@ -88,22 +88,22 @@ pub record LedgerWritten (a : Action) (l m l′ : Bytes) : Type 0 where
   pub tail : isNew a ≡ false → part (rowAt l′ (placeFor a l m)) tailAt tailSize ≡ part (rowAt l (placeFor a l m)) tailAt tailSize
   -- NEWT raises rows in use by one; a line raises the next identifier by one
   pub rows : rowsInUse l′ ≡ choose (isNew a) (rowsInUse l + 1) (rowsInUse l)
-  pub next : nextIdentifier l′ ≡ choose (writesLine a) (nextIdentifier l + 1) (nextIdentifier l)
+  pub next : nextIdentifier l′ ≡ choose (lineDueIn a l m) (nextIdentifier l + 1) (nextIdentifier l)
   -- nothing else moves
   pub long : length l′ ≡ length l
   pub others :
       (i : ℕ)
       → Outside (rowStart (placeFor a l m)) rowSize i
       → (isNew a ≡ true → Outside rowsAt u32 i)
-      → (writesLine a ≡ true → Outside nextAt u64 i)
+      → (lineDueIn a l m ≡ true → Outside nextAt u64 i)
       → getD l′ i 0 ≡ getD l i 0
 
--- the line at the front of the tape buffer, and every later byte; PRTO writes no byte
+-- the line at the front of the tape buffer, and every later byte; no byte where no line is due
 pub record TapeWritten (a : Action) (l t m t′ : Bytes) : Type 0 where
-  pub line : writesLine a ≡ true → Placed 0 (lineFields a (nextIdentifier l) (swapIdentifier l (swapOf m)) m (termsFor a l m)) t′
+  pub line : lineDueIn a l m ≡ true → Placed 0 (lineFields a (nextIdentifier l) (swapIdentifier l (swapOf m)) m (termsFor a l m)) t′
   pub later : drop lineSize t′ ≡ drop lineSize t
   pub long : length t′ ≡ length t
-  pub none : writesLine a ≡ false → t′ ≡ t
+  pub none : lineDueIn a l m ≡ false → t′ ≡ t
 
 -- an accepted message
 pub record Written (lent : Lent) (m : Bytes) (s : Submitted) : Type 0 where
@@ -111,7 +111,7 @@ pub record Written (lent : Lent) (m : Bytes) (s : Submitted) : Type 0 where
   pub reads : actionIn m ≡ Value action
   pub ledger : LedgerWritten action (lent .ledger) m (s .lent .ledger)
   pub tape : TapeWritten action (lent .ledger) (lent .buffers .tape) m (s .lent .buffers .tape)
-  pub identifier : s .identifier ≡ choose (writesLine action) (nextIdentifier (lent .ledger)) 0
+  pub identifier : s .identifier ≡ choose (lineDueIn action (lent .ledger) m) (nextIdentifier (lent .ledger)) 0
 
 abbrev pub Writes-under : Limits → Type 0
 Writes-under limits = (lent : Lent) (m : Bytes) → submitted limits lent m .verdict ≡ 0 → Written lent m (submitted limits lent m)

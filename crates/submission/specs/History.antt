@@ -9,11 +9,10 @@ use Rattle.octets.specs.Choice.{choose, both}
 use Rattle.actions.specs.declared.Action.{Action}
 use Rattle.actions.specs.declared.Checked.{Checked}
 use Rattle.actions.specs.declared.Checked.the-variants.{Fault, Value}
-use Rattle.actions.specs.Actions.{writesLine}
 use Rattle.ledger.specs.Layout.{lineSize}
 use Rattle.submission.specs.Opening.{Limits}
 use Rattle.submission.specs.Lent.{Buffers}
-use Rattle.submission.specs.Submission.{Submitted, submitted, actionIn}
+use Rattle.submission.specs.Submission.{Submitted, submitted, actionIn, lineDueIn}
 
 -- a call, with the buffers that are lent for it beside the ledger: a message is submitted
 pub data Call : Type 0 where
@@ -43,9 +42,9 @@ ofKind kind (Value a) = kind a
 abbrev pub hasAction : (Action → Bool) → Bytes → Bool
 hasAction kind m = ofKind kind (actionIn m)
 
--- every accepted message but PRTO writes a line
+-- an accepted message for which a line is due writes it
 unfoldable pub publishes : Limits → Bytes → Call → Bool
-publishes limits l c = both (eqb (answerTo limits l c .verdict) 0) (hasAction writesLine (messageOf c))
+publishes limits l c = both (eqb (answerTo limits l c .verdict) 0) (hasAction (λ a. lineDueIn a l (messageOf c)) (messageOf c))
 
 -- the line in the tape buffer, as the submission left it
 unfoldable pub lineOf : Limits → Bytes → Call → Bytes

@@ -35,7 +35,13 @@ use Rattle.submission.specs.Lent.{Lent, lentOf}
 abbrev pub swapOf : Bytes → Bytes
 swapOf m = value uti m
 
--- ---- rules 14 to 18, by what is known of the swap and the numbers of the header
+-- ---- whether a line is due
+
+-- by the action
+unfoldable pub lineDueIn : Action → Bytes → Bytes → Bool
+lineDueIn a l m = writesLine a
+
+-- ---- rules 14 to 17, by what is known of the swap and the numbers of the header
 
 -- a swap's status is 1 to 4, and its identifier 1 to next less 1
 unfoldable pub rowRight : ℕ → Swap → Bool
@@ -57,10 +63,6 @@ hasOtherTime a time m = both (repeatsTime a) (not (sameBytes (value executionTim
 unfoldable pub findsFull : Action → Header → Bool
 findsFull a h = both (isNew a) (eqb (h .rows) (h .capacity))
 
--- a line is due and the next identifier is 1,000,000,000,000 (18)
-unfoldable pub findsSpent : Action → Header → Bool
-findsSpent a h = both (writesLine a) (eqb (h .next) identifierLimit)
-
 -- in checking order, for the message m of a swap with this execution timestamp
 unfoldable pub swapRules : Action → Header → Swap → Bytes → Bytes → List Rule
 swapRules a h s time m =
@@ -68,19 +70,27 @@ swapRules a h s time m =
     ∷ test notAdmitted (isNotAdmitted a s)
     ∷ test otherTime (hasOtherTime a time m)
     ∷ test ledgerFull (findsFull a h)
-    ∷ test identifiersSpent (findsSpent a h)
     ∷ []
 
 -- with what a ledger has of the swap that the message names
 abbrev pub rulesIn : Action → Bytes → Bytes → List Rule
 rulesIn a l m = swapRules a (headerOf l) (swapIn l (swapOf m)) (swapTime l (swapOf m)) m
 
+-- ---- rule 18, by whether a line is due and the next identifier
+
+-- a line is due and the next identifier is 1,000,000,000,000
+unfoldable pub findsSpent : Bool → ℕ → Bool
+findsSpent due next = both due (eqb next identifierLimit)
+
+abbrev pub identifierRule : Action → Bytes → Bytes → Rule
+identifierRule a l m = test identifiersSpent (findsSpent (lineDueIn a l m) (nextIdentifier l))
+
 -- ---- the rules of a submission in checking order
 
 -- where 6 is broken there is no action, and nothing is judged after it
 abbrev pub afterRules : Checked → Bytes → Bytes → List Rule
 afterRules (Fault code) l m = []
-afterRules (Value a) l m = rulesIn a l m
+afterRules (Value a) l m = rulesIn a l m ++ (identifierRule a l m ∷ [])
 
 -- 3 and 4, then the rules of the message alone, then 14 to 18
 unfoldable pub submissionRules : Limits → Checked → Lent → Bytes → List Rule
@@ -116,21 +126,22 @@ placeFor a l m = choose (isNew a) (rowsInUse l) (placeOf l (swapOf m))
 
 unfoldable pub rowFor : Action → Bytes → Bytes → Bytes
 rowFor a l m =
-    rowAfter a (nextStatus a (swapStatus l (swapOf m))) (swapOf m) (nextIdentifier l) (termsFor a l m) (rowAt l (placeFor a l m))
+    rowAfter a (lineDueIn a l m) (nextStatus a (swapStatus l (swapOf m))) (swapOf m) (nextIdentifier l) (termsFor a l m) (rowAt l (placeFor a l m))
 
 unfoldable pub ledgerFor : Action → Bytes → Bytes → Bytes
-ledgerFor a l m = headerAfter a (rowsInUse l) (nextIdentifier l) (splice l (rowStart (placeFor a l m)) (rowFor a l m))
+ledgerFor a l m =
+    headerAfter a (lineDueIn a l m) (rowsInUse l) (nextIdentifier l) (splice l (rowStart (placeFor a l m)) (rowFor a l m))
 
 -- the line takes the next identifier
 unfoldable pub lineFor : Action → Bytes → Bytes → Bytes
 lineFor a l m = line a (nextIdentifier l) (swapIdentifier l (swapOf m)) m (termsFor a l m)
 
--- a line takes the first bytes of the tape buffer; later bytes stay. PRTO writes no byte of it
-abbrev pub tapeAfter : Action → Bytes → Bytes → Bytes
-tapeAfter a line t = choose (writesLine a) (splice t 0 line) t
+-- a line takes the first bytes of the tape buffer; later bytes stay. Where none is due no byte of it is written
+abbrev pub tapeAfter : Bool → Bytes → Bytes → Bytes
+tapeAfter due line t = choose due (splice t 0 line) t
 
 abbrev pub tapeFor : Action → Bytes → Bytes → Bytes → Bytes
-tapeFor a l t m = tapeAfter a (lineFor a l m) t
+tapeFor a l t m = tapeAfter (lineDueIn a l m) (lineFor a l m) t
 
 abbrev pub lentFor : Action → Lent → Bytes → Lent
 lentFor a lent m = lentOf (ledgerFor a (lent .ledger) m) (tapeFor a (lent .ledger) (lent .buffers .tape) m)
@@ -150,7 +161,7 @@ accepted a lent m =
     record {
       verdict = 0;
       element = 0;
-      identifier = choose (writesLine a) (nextIdentifier (lent .ledger)) 0;
+      identifier = choose (lineDueIn a (lent .ledger) m) (nextIdentifier (lent .ledger)) 0;
       lent = lentFor a lent m;
     }
 

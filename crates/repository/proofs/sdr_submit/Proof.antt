@@ -35,7 +35,7 @@ demands =
     }
 
 pack-requires : tie.Need-pack-requires
-pack-requires c κs = carried _ _ (c .before .before .before .before .submit .ensures .0) (submission-small documentLimits _ _ (lit< tt))
+pack-requires c κs = carried _ _ (c .before .before .before .before .submit .ensures .0) (submission-small documentLimits _ _)
 
 returns : tie.Need-returns
 returns c =

@@ -1,5 +1,4 @@
 -- `ledger::rows::raise_next` meets its contract. Assumes nothing.
-use mathlib.Core.Path.{sym, _∙_}
 use Rattle.ledger.specs.Rows.{withNext}
 use borrow.Author.Needs.{needs}
 use Rattle.ledger.proofs.rows.raise_next.Statement.{statement}
@@ -7,9 +6,9 @@ use Rattle.ledger.proofs.rows.raise_next.Tie as tie
 
 returns : tie.Need-returns
 unfolding withNext
-returns c = rw (sym (c .before .before .before .before .before .writes-line .ensures) ∙ c .before .before .before .before .if1 .taken) (c .before .before .write-at .ensures)
+returns c = rw (c .before .before .before .before .if1 .taken) (c .before .before .write-at .ensures)
 
 pub raise-next-spec : {M : Type 1} → statement M
 raise-next-spec =
     tie.close
-    (tie.spec (λ c κs. search needs) (λ c. search needs) (λ c κs. search needs) (λ c. search needs) returns (λ c. search needs))
+    (tie.spec (λ c. search needs) (λ c κs. search needs) (λ c. search needs) returns (λ c. search needs))

@@ -21,7 +21,7 @@ returns c =
     let a = s .args in
     let l = now (a .l) in
     let row : take (rowStart (a .k) + rowSize - rowStart (a .k)) (drop (rowStart (a .k)) l) ≡ rowAt l (a .k) = rw add-sub-cancel-left in
-    lent-back _ _ _ _ _ (update .update-row .ensures ∙ ap (rowAfter (a .a) (a .status) (now (a .uti)) (a .identifier) (now (a .terms))) row) (length-row-after (a .a) _ _ _ _ _ (s .pre .2) (length-row l (a .k) (search needs)))
+    lent-back _ _ _ _ _ (update .update-row .ensures ∙ ap (rowAfter (a .a) (a .due) (a .status) (now (a .uti)) (a .identifier) (now (a .terms))) row) (length-row-after (a .a) (a .due) (a .status) (now (a .uti)) (a .identifier) (now (a .terms)) (rowAt l (a .k)) (s .pre .2) (length-row l (a .k) (search needs)))
 
 pub store-row-spec : {M : Type 1} → statement M
 store-row-spec =

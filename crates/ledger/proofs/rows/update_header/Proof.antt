@@ -2,7 +2,6 @@
 use mathlib.Core.Path.{ap, _∙_}
 use Prim.Native.Nat.{_+_}
 use Rattle.octets.specs.Choice.{choose}
-use Rattle.actions.specs.Actions.{writesLine}
 use Rattle.ledger.specs.Rows.{withNext, headerAfter}
 use borrow.Author.Needs.{needs}
 use Rattle.ledger.proofs.rows.update_header.Statement.{statement}
@@ -12,7 +11,7 @@ returns : tie.Need-returns
 unfolding headerAfter
 returns c =
     let a = c .before .before .before .before .before .before .before .before .before .args in
-    c .before .before .raise-next .ensures ∙ ap (λ l. choose (writesLine (a .a)) (withNext (a .next + 1) l) l) (c .before .before .before .before .before .before .raise-rows .ensures)
+    c .before .before .raise-next .ensures ∙ ap (λ l. choose (a .due) (withNext (a .next + 1) l) l) (c .before .before .before .before .before .before .raise-rows .ensures)
 
 pub update-header-spec : {M : Type 1} → statement M
 update-header-spec =

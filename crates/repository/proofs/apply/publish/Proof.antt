@@ -1,5 +1,4 @@
 -- `repository::apply::publish` meets its contract. Assumes nothing.
-use mathlib.Core.Path.{sym, _∙_}
 use borrow.Author.Needs.{needs}
 use Rattle.repository.proofs.apply.publish.Statement.{statement}
 use Rattle.repository.proofs.apply.publish.Tie as tie
@@ -7,9 +6,7 @@ use Rattle.repository.proofs.apply.publish.Tie as tie
 returns : tie.Need-returns
 returns c =
     let w = c .before .before in
-    rw (sym (w .before .before .before .writes-line .ensures) ∙ w .before .before .if1 .taken) (w .write-line .ensures .0)
+    rw (w .before .before .if1 .taken) (w .write-line .ensures .0)
 
 pub publish-spec : {M : Type 1} → statement M
-publish-spec =
-    tie.close
-    (tie.spec (λ c κs. search needs) (λ c κs. search needs) (λ c. search needs) returns (λ c. search needs))
+publish-spec = tie.close (tie.spec (λ c κs. search needs) (λ c. search needs) returns (λ c. search needs))

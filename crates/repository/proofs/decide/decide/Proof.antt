@@ -2,7 +2,7 @@
 use mathlib.Core.Bool.{true, not}
 use mathlib.Core.Path.{_≡_, refl, sym, ap, _∙_}
 use denote.Ref.{now}
-use Rattle.rules.specs.Findings.{brokenIf, firstBroken, findingOf, fromRule}
+use Rattle.rules.specs.Findings.{brokenIf, firstBroken, findingOf, fromRule, beforeRule}
 use Rattle.ledger.specs.declared.header.Header.{Header}
 use Rattle.ledger.specs.declared.header.HeaderCheck.the-variants as check
 use Rattle.ledger.specs.Header.{headerRight, headerOf}
@@ -25,13 +25,13 @@ known : (c : tie.After-known-told) → (headerRight (s1 c .args .largest) (now (
 known c = header-checked _ _ (check.Value (header c)) (sym (c .before .before .before .read-header .ensures) ∙ c .before .header .given .1)
 
 returns : tie.Need-returns
-unfolding submissionRules findingOf
+unfolding submissionRules findingOf beforeRule
 returns c =
     let wrong = header-checked _ _ check.Fault (sym (c .before .before .read-header .ensures) ∙ c .enum-told .given .1) in
     test-stops ledgerWrong _ _ _ refl (ap (λ b. brokenIf (not b)) wrong) ∙ from-first _ _ _
 
 returns-2 : tie.Need-returns-2
-unfolding submissionRules decisionFrom fromRule firstBroken
+unfolding submissionRules decisionFrom fromRule beforeRule firstBroken
 returns-2 c = rw (known (c .before) .0) (c .decide-tape .ensures (s1 (c .before) .args .largest)) ∙ from-first _ _ _
 
 pub decide-spec : {M : Type 1} → statement M

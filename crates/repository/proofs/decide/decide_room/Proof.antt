@@ -13,7 +13,7 @@ returns c swap time m = rw (sym (c .before .finds-full .ensures) ∙ c .if1 .tak
 
 returns-2 : tie.Need-returns-2
 unfolding decidedFrom swapRules fromRule firstBroken
-returns-2 c swap time m = rw (sym (c .before .before .finds-full .ensures) ∙ c .before .if1 .left) (c .decide-identifier .ensures swap time m)
+returns-2 c swap time m = rw (sym (c .before .finds-full .ensures) ∙ c .if1 .left)
 
 pub decide-room-spec : {M : Type 1} → statement M
-decide-room-spec = tie.close (tie.spec (λ c κs. search needs) returns (λ c κs. search needs) returns-2)
+decide-room-spec = tie.close (tie.spec (λ c κs. search needs) returns returns-2)

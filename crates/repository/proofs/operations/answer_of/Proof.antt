@@ -9,7 +9,7 @@ returns : tie.Need-returns
 returns c = c .refusal .ensures ∙ ap decisionAnswer (sym (c .before .before .d .given .1))
 
 returns-2 : tie.Need-returns-2
-returns-2 c = rw (c .line-identifier .ensures) (ap decisionAnswer (sym (c .before .before .d2 .given .1)))
+returns-2 c = c .refusal2 .ensures ∙ ap decisionAnswer (sym (c .before .enum-told .given .1))
 
 pub answer-of-spec : {M : Type 1} → statement M
 answer-of-spec =

@@ -3,11 +3,11 @@ use mathlib.Core.Path.{_≡_, sym, ap, _∙_}
 use denote.Ref.{now}
 use Rattle.submission.specs.Opening.{Limits}
 use Rattle.submission.specs.Lent.{Lent, lentOf}
-use Rattle.submission.specs.Submission.{submitted}
+use Rattle.submission.specs.Submission.{Submitted, submitted}
 use Rattle.repository.specs.declared.decide.Decision.{Decision}
 use Rattle.repository.specs.Answers.{limitsOf, submissionAnswer}
-use Rattle.repository.specs.Decision.{decisionAnswer}
-use Rattle.repository.proofs.AcceptanceLaws.{Leaves, decision-answers, decision-writes, writable}
+use Rattle.repository.specs.Decision.{decisionAnswer, submittedBy}
+use Rattle.repository.proofs.AdmissionLaws.{by-decision, writable}
 use borrow.Author.Needs.{needs}
 use Rattle.repository.proofs.operations.submit.Statement.{statement}
 use Rattle.repository.proofs.operations.submit.Tie as tie
@@ -21,29 +21,28 @@ limits c = limitsOf (start c .args .longest) (start c .args .largest)
 abbrev lent : tie.After-decide → Lent
 lent c = lentOf (now (start c .args .l)) (now (start c .args .tape))
 
-answers : (c : tie.After-decide) → decisionAnswer (c .decide .result) ≡ submissionAnswer (submitted (limits c) (lent c) (now (start c .args .m)))
-answers c = ap decisionAnswer (c .decide .ensures) ∙ decision-answers (limits c) (lent c) (now (start c .args .m))
-
-leaves : (c : tie.After-decide) (d : Decision) → c .decide .result ≡ d → Leaves d (lent c) (now (start c .args .m)) (submitted (limits c) (lent c) (now (start c .args .m)))
-leaves c d e = decision-writes (limits c) (lent c) (now (start c .args .m)) d (sym (c .decide .ensures) ∙ e)
+-- what the submission is, by the decision that was made
+is : (c : tie.After-decide) (d : Decision) → c .decide .result ≡ d → submitted (limits c) (lent c) (now (start c .args .m)) ≡ submittedBy d (lent c) (now (start c .args .m))
+is c d e = by-decision (limits c) (lent c) (now (start c .args .m)) d (sym (c .decide .ensures) ∙ e)
 
 returns : tie.Need-returns
 returns c =
-    let d = c .before .before .before in
-    (c .answer-of .ensures ∙ answers d, sym (leaves d _ (c .before .enum-told .given .1)))
+    let t = c .before in
+    let s = is (t .before .before) _ (t .enum-told .given .1) in
+    (c .answer-of .ensures ∙ ap decisionAnswer (t .enum-told .given .1) ∙ sym (ap submissionAnswer s), sym (ap (λ (x : Submitted). x .lent) s))
 
-apply-requires : tie.Need-apply-requires
-apply-requires c κs =
+conclude-requires : tie.Need-conclude-requires
+conclude-requires c κs =
     let k = c .before .before in
     let d = k .before .before .before in
     writable (limits d) (lent d) (now (start d .args .m)) _ (search needs) (sym (d .decide .ensures) ∙ k .before .decision .given .1)
 
 returns-2 : tie.Need-returns-2
 returns-2 c =
-    let p = c .before .before .before .before .before in
+    let p = c .before .before .before .before in
     let k = p .before .before .before in
-    let d = k .before .before .before in
-    (c .answer-of2 .ensures ∙ ap decisionAnswer (sym (k .before .decision .given .1)) ∙ answers d, p .apply .ensures ∙ sym (leaves d _ (k .before .decision .given .1)))
+    let s = is (k .before .before .before) _ (k .before .decision .given .1) in
+    (p .conclude .ensures .0 ∙ sym (ap submissionAnswer s), p .conclude .ensures .1 ∙ sym (ap (λ (x : Submitted). x .lent) s))
 
 pub submit-spec : {M : Type 1} → statement M
 submit-spec =
@@ -56,8 +55,7 @@ submit-spec =
     (λ c. search needs)
     (λ c. search needs)
     returns
-    apply-requires
-    (λ c κs. search needs)
+    conclude-requires
     (λ c. search needs)
     (λ c. search needs)
     returns-2)

@@ -1,11 +1,11 @@
--- `repository::apply::collect_terms` meets its contract. Assumes nothing.
+-- `repository::conclude::collect_terms` meets its contract. Assumes nothing.
 use mathlib.Core.Path.{sym, ap, _∙_}
 use lib.ListN.{length}
 use Rattle.ledger.proofs.RowLaws.{length-row}
 use Rattle.submission.proofs.Lookup.{length-stored}
 use borrow.Author.Needs.{needs}
-use Rattle.repository.proofs.apply.collect_terms.Statement.{statement}
-use Rattle.repository.proofs.apply.collect_terms.Tie as tie
+use Rattle.repository.proofs.conclude.collect_terms.Statement.{statement}
+use Rattle.repository.proofs.conclude.collect_terms.Tie as tie
 
 returns : tie.Need-returns
 returns c =
