@@ -163,7 +163,7 @@ enum sdr_verdict_code {
     SDR_NOT_ADMITTED = 15,        /* the swap's status does not allow the action; see the statuses */
     SDR_OTHER_TIME = 16,          /* MODI or REVI gives another execution time than the swap has */
     SDR_LEDGER_FULL = 17,         /* NEWT, and every row is in use */
-    SDR_IDENTIFIERS_SPENT = 18,   /* a line would be due, and no identifier is left */
+    SDR_IDENTIFIERS_SPENT = 18,   /* a line is due, and no identifier is left; see sdr_submit for messages without a line */
     SDR_PRICE_AND_SPREAD = 19     /* a package has both price and spread */
 };
 
@@ -210,10 +210,12 @@ uint32_t sdr_open(uint8_t *ledger, size_t ledger_len, uint64_t cap_cr, uint64_t 
  *   bits 16 to 23   0
  *   bits 24 to 63   identifier of the line that was written; 0 if no line was written
  *
- * The identifier tells whether an accepted message wrote a line. PRTO writes none, and no byte of the tape buffer; any other
- * action writes one line into the first SDR_LINE_SIZE bytes and leaves later ones as they are. Identifiers count the lines
- * of a ledger from 1. In the ledger, acceptance changes the swap's row (NEWT: the next free one) and, in the header, the
- * rows in use (NEWT alone) and the next identifier (with every line).
+ * The identifier tells whether an accepted message wrote a line. Two kinds of messages write none, and no byte of the tape
+ * buffer: PRTO, and a MODI that shows nothing new. That is one whose line would have, from the execution time on, what the
+ * ledger has of the swap already; its event and event time do not matter. Any other message writes one line into the first
+ * SDR_LINE_SIZE bytes and leaves later ones as they are. Identifiers count the lines of a ledger from 1. In the ledger,
+ * acceptance changes the swap's row (NEWT: the next free one) and, in the header, the rows in use (NEWT alone) and the next
+ * identifier (with every line). A MODI that shows nothing new changes no byte.
  */
 uint64_t sdr_submit(uint8_t *ledger, size_t ledger_len, uint8_t *tape, size_t tape_len, const uint8_t *message,
                     size_t message_len);

@@ -7,6 +7,7 @@ use crate::timing::{measure, Run};
 use crate::utis::Shape;
 use compare::dayrun::{program, Temporary};
 use compare::days::framed;
+use compare::judge::{Checker, Judge};
 use compare::layout::DAY_ROWS;
 use sdr::LINE_SIZE;
 use std::path::{Path, PathBuf};
@@ -84,10 +85,10 @@ fn mixed_day(messages: usize) -> Result<Vec<u8>, String> {
     let mut bytes = Vec::new();
     for number in 1..=messages {
         let sent = day.next(&ledger);
-        let answer = checker::submit(&mut ledger.bytes, &mut [0; LINE_SIZE], &sent.message);
-        if answer.verdict != sent.verdict {
-            let (came, due) = (answer.verdict, sent.verdict);
-            return Err(format!("message {number}: verdict {came}, due is {due}"));
+        let answer = Checker.submit(&mut ledger.bytes, &mut [0; LINE_SIZE], &sent.message);
+        if !sent.due.is_met(answer) {
+            let due = sent.due;
+            return Err(format!("message {number}: {answer:?}, due is {due}"));
         }
         bytes.extend(framed(&sent.message));
     }

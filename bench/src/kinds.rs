@@ -1,12 +1,13 @@
 //! What each line submits, and to a ledger of how many rows.
 
+use crate::due::Due;
 use crate::faults;
 use crate::ledgers::{put_header_back, put_row_back, Ledger};
-use crate::messages::{sound, sound_new, sound_new_by_spread};
+use crate::messages::{sound, sound_new, sound_new_by_spread, sound_showing};
 use crate::mixed::{Mixed, Sent};
 use crate::utis::Shape;
 use compare::random::Random;
-use sdr::{ACCEPTED, ACTION_WRONG, DATES_DISORDERED, LARGEST_CAPACITY, LAYOUT_WRONG, NOT_ADMITTED};
+use sdr::{ACTION_WRONG, DATES_DISORDERED, LARGEST_CAPACITY, LAYOUT_WRONG, NOT_ADMITTED};
 
 /// The UTIs of the lines' ledgers.
 pub const SHAPE: Shape = Shape::MixedLengths;
@@ -41,7 +42,7 @@ impl PutBack {
 /// A message with what is due for it.
 pub struct Case {
     pub message: Vec<u8>,
-    pub verdict: u8,
+    pub due: Due,
     pub put_back: PutBack,
 }
 
@@ -54,11 +55,12 @@ pub enum Kind {
     DatesDisordered,
     KnownSwap,
     TermLast,
+    ShowsNothing,
     MixedDay,
 }
 
 impl Kind {
-    pub const ALL: [Kind; 8] = [
+    pub const ALL: [Kind; 9] = [
         Kind::AcceptedNew,
         Kind::AcceptedSpread,
         Kind::LayoutWrong,
@@ -66,6 +68,7 @@ impl Kind {
         Kind::DatesDisordered,
         Kind::KnownSwap,
         Kind::TermLast,
+        Kind::ShowsNothing,
         Kind::MixedDay,
     ];
 
@@ -78,6 +81,7 @@ impl Kind {
             Kind::DatesDisordered => "dates disordered (verdict 13)",
             Kind::KnownSwap => "NEWT of the last row's swap (verdict 15)",
             Kind::TermLast => "TERM of the last row accepted",
+            Kind::ShowsNothing => "MODI of the last row that shows nothing",
             Kind::MixedDay => "mixed day",
         }
     }
@@ -86,7 +90,9 @@ impl Kind {
     /// known swap and there is none. Where a NEWT is accepted one row stays free.
     pub fn rows(self, size: usize) -> Option<usize> {
         match self {
-            Kind::KnownSwap | Kind::TermLast | Kind::MixedDay if size == 0 => None,
+            Kind::KnownSwap | Kind::TermLast | Kind::ShowsNothing | Kind::MixedDay if size == 0 => {
+                None
+            }
             Kind::AcceptedNew | Kind::AcceptedSpread | Kind::MixedDay => {
                 Some(size.min(LARGEST_CAPACITY - 1))
             }
@@ -100,26 +106,29 @@ impl Kind {
         let last = ledger.rows().saturating_sub(1);
         let unknown = |number: usize| SHAPE.uti(ledger.rows() + number);
         match self {
-            Kind::AcceptedNew => each(count, ACCEPTED, PutBack::Header, |number| {
+            Kind::AcceptedNew => each(count, Due::Line, PutBack::Header, |number| {
                 sound_new(random, &unknown(number)).encode()
             }),
-            Kind::AcceptedSpread => each(count, ACCEPTED, PutBack::Header, |number| {
+            Kind::AcceptedSpread => each(count, Due::Line, PutBack::Header, |number| {
                 sound_new_by_spread(random, &unknown(number)).encode()
             }),
-            Kind::LayoutWrong => each(count, LAYOUT_WRONG, PutBack::Nothing, |number| {
+            Kind::LayoutWrong => refused(count, LAYOUT_WRONG, |number| {
                 faults::layout_wrong(number, &sound_new(random, &unknown(number)))
             }),
-            Kind::ActionWrong => each(count, ACTION_WRONG, PutBack::Nothing, |number| {
+            Kind::ActionWrong => refused(count, ACTION_WRONG, |number| {
                 faults::action_wrong(number, &sound_new(random, &unknown(number))).encode()
             }),
-            Kind::DatesDisordered => each(count, DATES_DISORDERED, PutBack::Nothing, |number| {
+            Kind::DatesDisordered => refused(count, DATES_DISORDERED, |number| {
                 faults::dates_disordered(number, &sound_new(random, &unknown(number))).encode()
             }),
-            Kind::KnownSwap => each(count, NOT_ADMITTED, PutBack::Nothing, |_| {
+            Kind::KnownSwap => refused(count, NOT_ADMITTED, |_| {
                 sound_new(random, &ledger.uti(last)).encode()
             }),
-            Kind::TermLast => each(count, ACCEPTED, PutBack::HeaderAndRow(last), |_| {
+            Kind::TermLast => each(count, Due::Line, PutBack::HeaderAndRow(last), |_| {
                 sound(random, "TERM", &ledger.uti(last), "").encode()
+            }),
+            Kind::ShowsNothing => each(count, Due::NoLine, PutBack::Nothing, |_| {
+                sound_showing(random, &ledger.uti(last), ledger.terms(last)).encode()
             }),
             Kind::MixedDay => mixed(ledger, count),
         }
@@ -129,29 +138,34 @@ impl Kind {
 /// So many messages for which the same is due.
 fn each(
     count: usize,
-    verdict: u8,
+    due: Due,
     put_back: PutBack,
     message: impl FnMut(usize) -> Vec<u8>,
 ) -> Vec<Case> {
     let case = |message| Case {
         message,
-        verdict,
+        due,
         put_back,
     };
     (0..count).map(message).map(case).collect()
+}
+
+/// So many messages that are refused.
+fn refused(count: usize, verdict: u8, message: impl FnMut(usize) -> Vec<u8>) -> Vec<Case> {
+    each(count, Due::Refused(verdict), PutBack::Nothing, message)
 }
 
 /// A mixed day on which every message meets the same ledger.
 fn mixed(ledger: &Ledger, count: usize) -> Vec<Case> {
     let mut day = Mixed::about(ledger, SHAPE, PORTING);
     let case = |sent: Sent| Case {
-        put_back: match (sent.verdict, sent.place) {
-            (ACCEPTED, Some(place)) => PutBack::HeaderAndRow(place),
-            (ACCEPTED, None) => PutBack::Header,
-            _ => PutBack::Nothing,
+        put_back: match (sent.due, sent.place) {
+            (Due::Refused(_), _) => PutBack::Nothing,
+            (_, Some(place)) => PutBack::HeaderAndRow(place),
+            (_, None) => PutBack::Header,
         },
         message: sent.message,
-        verdict: sent.verdict,
+        due: sent.due,
     };
     (0..count).map(|_| case(day.next(ledger))).collect()
 }

@@ -2,7 +2,7 @@
 
 use crate::messages::sound_new;
 use crate::utis::Shape;
-use compare::layout::{row_range, u32_at, EXECUTION_IN_TERMS, TERMS_IN_ROW};
+use compare::layout::{row_range, u32_at, EXECUTION_IN_TERMS, TERMS_IN_ROW, TERMS_SIZE};
 use compare::layout::{Caps, CAPACITY_IN_HEADER, DAY_CAPS, NEXT_IN_HEADER, ROWS_IN_HEADER};
 use compare::layout::{IDENTIFIER_IN_ROW, LENGTH_IN_ROW, STATUS_IN_ROW, UTI_IN_ROW};
 use compare::random::Random;
@@ -67,8 +67,14 @@ impl Ledger {
         text(&row[UTI_IN_ROW][..row[LENGTH_IN_ROW].into()])
     }
 
+    /// The masked terms that a row holds.
+    pub fn terms(&self, place: usize) -> &[u8; TERMS_SIZE] {
+        let terms = &self.row(place)[TERMS_IN_ROW];
+        terms.try_into().expect("the terms' size")
+    }
+
     pub fn execution_time(&self, place: usize) -> String {
-        text(&self.row(place)[TERMS_IN_ROW][EXECUTION_IN_TERMS])
+        text(&self.terms(place)[EXECUTION_IN_TERMS])
     }
 }
 

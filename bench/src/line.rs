@@ -1,6 +1,7 @@
 //! One line of the table: the same messages and the same buffers, lent to the
 //! core and to the checker.
 
+use crate::due::Due;
 use crate::kinds::Case;
 use crate::ledgers::Ledger;
 use crate::timing::{measure, Figures, Run};
@@ -47,13 +48,13 @@ impl Line {
         self.cases.len()
     }
 
-    /// How many messages the line has for each verdict.
+    /// How many messages the line has for each answer that is due.
     pub fn described(&self) -> String {
-        let mut verdicts: Vec<u8> = self.cases.iter().map(|case| case.verdict).collect();
-        verdicts.sort();
-        let parts: Vec<String> = verdicts
+        let mut dues: Vec<Due> = self.cases.iter().map(|case| case.due).collect();
+        dues.sort();
+        let parts: Vec<String> = dues
             .chunk_by(|one, next| one == next)
-            .map(|alike| format!("{} with verdict {}", alike.len(), alike[0]))
+            .map(|alike| format!("{} with {}", alike.len(), alike[0]))
             .collect();
         parts.join(", ")
     }
@@ -92,8 +93,8 @@ impl Line {
         }
     }
 
-    /// Holds the core to the checker and both to the verdict that is due, on
-    /// every message: answers, and every byte of ledger and tape buffer.
+    /// Holds the core to the checker and both to what is due, on every
+    /// message: answers, and every byte of ledger and tape buffer.
     pub fn compare(&mut self) -> Result<(), String> {
         self.restore();
         let mut checkers = self.lent.clone();
@@ -102,8 +103,8 @@ impl Line {
                 self.lent.submit(&Core, &case.message),
                 checkers.submit(&Checker, &case.message),
             ];
-            let fault = wrong_answers(answers, case.verdict)
-                .or_else(|| different_bytes(&self.lent, &checkers));
+            let fault =
+                wrong_answers(answers, case.due).or_else(|| different_bytes(&self.lent, &checkers));
             self.lent.put_back(case, &self.saved);
             checkers.put_back(case, &self.saved);
             let fault = fault.or_else(|| left_over(&self.lent, &self.saved));
@@ -115,13 +116,13 @@ impl Line {
     }
 }
 
-fn wrong_answers([core, checker]: [Answer; 2], due: u8) -> Option<String> {
+fn wrong_answers([core, checker]: [Answer; 2], due: Due) -> Option<String> {
     if core != checker {
         return Some(format!(
             "the core answers {core:?}, the checker {checker:?}"
         ));
     }
-    (core.verdict != due).then(|| format!("verdict {}, due is {due}", core.verdict))
+    (!due.is_met(core)).then(|| format!("the answer is {core:?}, due is {due}"))
 }
 
 fn different_bytes(one: &Lent, other: &Lent) -> Option<String> {

@@ -6,6 +6,7 @@
 //! such line, for a tool that counts instructions, and tells the submissions.
 
 mod days;
+mod due;
 mod faults;
 mod kinds;
 mod ledgers;

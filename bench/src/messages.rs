@@ -1,10 +1,14 @@
 //! Sound messages: those that break none of the rules 5 to 13, nor 19.
 
+use crate::ledgers::CAPS;
 use compare::codes::{CURRENCIES, LOCATIONS};
-use compare::lists::TRUTHS;
+use compare::layout::TERMS_SIZE;
+use compare::lists::{codes, TRUTHS};
 use compare::matrix::{events_of, is_full};
 use compare::message::Message;
 use compare::random::Random;
+use compare::showing::showing;
+use compare::terms::applies;
 use compare::values::{lei, CAPITALS_DIGITS};
 
 /// The day on which the messages are sent; swaps were executed this month.
@@ -46,6 +50,17 @@ pub fn sound_new_by_spread(random: &mut Random, uti: &str) -> Message {
     message.set(26, spread(random, notation)).set(27, notation);
     if notation == "1" {
         message.set(28, random.pick(&CURRENCIES));
+    }
+    message
+}
+
+/// A sound MODI that shows these masked terms.
+pub fn sound_showing(random: &mut Random, uti: &str, terms: &[u8; TERMS_SIZE]) -> Message {
+    let mut message = showing(random, "MODI", uti.as_bytes(), terms, &CAPS);
+    for code in codes() {
+        if !applies(&message, code) {
+            message.remove(code);
+        }
     }
     message
 }

@@ -1,17 +1,18 @@
 //! The mixed day: what desks send on a day, most of it sound.
 
+use crate::due::Due;
 use crate::faults;
 use crate::ledgers::Ledger;
 use crate::messages::{execution_time, sound, sound_new};
 use crate::utis::Shape;
 use compare::message::Message;
 use compare::random::Random;
-use sdr::{ACCEPTED, CLOSED, ERRORED, LEDGER_FULL, LIVE, NOT_ADMITTED, OTHER_TIME};
+use sdr::{CLOSED, ERRORED, LEDGER_FULL, LIVE, NOT_ADMITTED, OTHER_TIME};
 
 /// A message with what is due for it.
 pub struct Sent {
     pub message: Vec<u8>,
-    pub verdict: u8,
+    pub due: Due,
     /// The row that it changes, where there is one already.
     pub place: Option<usize>,
 }
@@ -59,7 +60,11 @@ impl Mixed {
         let full = ledger.rows() == ledger.capacity();
         Sent {
             message: sound_new(&mut self.random, &uti).encode(),
-            verdict: if full { LEDGER_FULL } else { ACCEPTED },
+            due: if full {
+                Due::Refused(LEDGER_FULL)
+            } else {
+                Due::Line
+            },
             place: None,
         }
     }
@@ -76,7 +81,7 @@ impl Mixed {
         let (message, verdict) = faults::any(random, &full);
         Sent {
             message,
-            verdict,
+            due: Due::Refused(verdict),
             place: None,
         }
     }
@@ -95,7 +100,8 @@ impl Mixed {
         refused(sound(random, "MODI", &uti, &other), OTHER_TIME)
     }
 
-    /// A step in the life of a known swap; a ported one admits none.
+    /// A step in the life of a known swap; a ported one admits none. A change
+    /// shows new terms.
     fn step(&mut self, ledger: &Ledger) -> Sent {
         let random = &mut self.random;
         let place = random.below(ledger.rows());
@@ -109,7 +115,10 @@ impl Mixed {
         };
         Sent {
             message: sound(random, action, &uti, &execution).encode(),
-            verdict: ACCEPTED,
+            due: match action {
+                "PRTO" => Due::NoLine,
+                _ => Due::Line,
+            },
             place: Some(place),
         }
     }
@@ -118,7 +127,7 @@ impl Mixed {
 fn refused(message: Message, verdict: u8) -> Sent {
     Sent {
         message: message.encode(),
-        verdict,
+        due: Due::Refused(verdict),
         place: None,
     }
 }

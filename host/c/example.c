@@ -171,6 +171,10 @@ static void first_swap_trades(void)
     report = full(FIRST, "MODI", "TRAD", "2025-03-04T09:00:00Z");
     report.value[SDR_NOTIONAL_AMOUNT] = "750000000.5";
     submit(&report); /* above the cap of IR: the tape shows the cap and a plus sign */
+    report.value[SDR_EVENT_TIMESTAMP] = "2025-03-04T10:00:00Z";
+    report.value[SDR_REPORTING_TIMESTAMP] = "2025-03-04T10:00:00Z";
+    report.value[SDR_NOTIONAL_AMOUNT] = "800000000";
+    submit(&report); /* accepted without a line: the tape would show what it shows already */
     report.value[SDR_EXECUTION_TIMESTAMP] = "2025-03-03T14:30:05Z";
     submit(&report); /* 16: only CORR may mend the execution time */
     submit_cut(&report, 20); /* 5: the header does not fit */

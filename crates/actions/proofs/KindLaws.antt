@@ -9,10 +9,10 @@ use Rattle.octets.specs.Choice.{choose, both}
 use Rattle.octets.specs.Search.{allFrom, all}
 use Rattle.octets.proofs.ChoiceLaws.{not-not}
 use Rattle.actions.specs.declared.Action.{Action}
-use Rattle.actions.specs.declared.Action.the-variants.{Newt}
+use Rattle.actions.specs.declared.Action.the-variants.{Newt, Modi}
 use Rattle.actions.specs.Statuses.{unknown, live, noStep}
 use Rattle.actions.specs.Table.{allActions, actionAt}
-use Rattle.actions.specs.Actions.{isFull, writesLine, isNew, repeatsTime, nextStatus}
+use Rattle.actions.specs.Actions.{isFull, needsChange, isNew, repeatsTime, nextStatus}
 use Rattle.actions.proofs.TableLaws.{stands, every}
 
 -- two tests that no action passes both
@@ -23,19 +23,22 @@ never p q e a h = by (q a) (subst (λ b. not (both b (q a)) ≡ true) h (every (
     by true g = absurd (false≢true g)
     by false g = refl
 
+-- a test that one action passes
+only : (p : Action → Bool) (k : ℕ) → all (λ j. not (both (p (actionAt j)) (not (eqb (stands (actionAt j) .0) k)))) (length allActions) ≡ true → (a : Action) → p a ≡ true → a ≡ actionAt k
+only p k e a h = sym (stands a .2) ∙ ap actionAt (eqb-true (stands a .0) k (not-not _ (never p (λ b. not (eqb (stands b .0) k)) e a h)))
+
 pub is-newt : (a : Action) → isNew a ≡ true → a ≡ Newt
 unfolding allFrom stands
-is-newt a e = sym (stands a .2) ∙ ap actionAt (eqb-true (stands a .0) 0 (not-not _ (never isNew (λ b. not (eqb (stands b .0) 0)) refl a e)))
+is-newt = only isNew 0 refl
+
+pub is-modi : (a : Action) → needsChange a ≡ true → a ≡ Modi
+unfolding allFrom stands
+is-modi = only needsChange 1 refl
 
 -- NEWT is full
 pub old-unless-full : (a : Action) → isFull a ≡ false → isNew a ≡ false
 unfolding allFrom
 old-unless-full a e = never (λ b. not (isFull b)) isNew refl a (ap not e)
-
--- a full action writes a line
-pub line-if-full : (a : Action) → writesLine a ≡ false → isFull a ≡ false
-unfolding allFrom
-line-if-full a e = never (λ b. not (writesLine b)) isFull refl a (ap not e)
 
 -- NEWT repeats no execution time
 pub old-if-repeats : (a : Action) → repeatsTime a ≡ true → isNew a ≡ false
@@ -53,4 +56,12 @@ new-unknown a s e f = by (eqb s unknown) refl (subst (λ b. eqb (nextStatus b s)
   where
     by : (b : Bool) → eqb s unknown ≡ b → eqb (choose b live noStep) noStep ≡ false → s ≡ unknown
     by true g h = eqb-true s unknown g
+    by false g h = absurd (false≢true (sym h))
+
+-- MODI leaves the status
+pub modi-stays : (s : ℕ) → eqb (nextStatus Modi s) noStep ≡ false → nextStatus Modi s ≡ s
+modi-stays s f = by (eqb s live) refl f
+  where
+    by : (b : Bool) → eqb s live ≡ b → eqb (choose b live noStep) noStep ≡ false → choose b live noStep ≡ s
+    by true g h = sym (eqb-true s live g)
     by false g h = absurd (false≢true (sym h))

@@ -42,6 +42,10 @@ isFull a = isFullKind (actionRow a .kind)
 abbrev pub writesLine : Action → Bool
 writesLine a = actionRow a .line
 
+-- but only where its masked terms are not the stored ones
+abbrev pub needsChange : Action → Bool
+needsChange a = actionRow a .change
+
 -- the action is a new swap's; any other is for a swap that has a row
 abbrev pub isNew : Action → Bool
 isNew a = actionRow a .new
@@ -66,5 +70,6 @@ IsRow a c =
     × (c .kind ≡ actionRow a .kind)
     × (c .new ≡ actionRow a .new)
     × (c .line ≡ actionRow a .line)
+    × (c .change ≡ actionRow a .change)
     × (c .repeats ≡ actionRow a .repeats)
     × (c .steps ≡ map (nextStatus a) statuses)

@@ -28,6 +28,8 @@ pub record ActionRow : Type 0 where
   pub new : Bool
   -- every accepted message but PRTO writes a tape line
   pub line : Bool
+  -- but MODI only where its masked terms are not the stored ones
+  pub change : Bool
   -- MODI and REVI repeat the stored execution timestamp; CORR may mend it
   pub repeats : Bool
   -- from which status to which; no other step exists
@@ -35,17 +37,18 @@ pub record ActionRow : Type 0 where
   -- the row of the matrix, Y where Appendix F has a tick
   pub events : String
 
-abbrev pub row : String → Kind → Bool → Bool → Bool → List (ℕ × ℕ) → String → ActionRow
-row text kind new line repeats steps events = record { text = text; kind = kind; new = new; line = line; repeats = repeats; steps = steps; events = events }
+abbrev pub row : String → Kind → Bool → Bool → Bool → Bool → List (ℕ × ℕ) → String → ActionRow
+row text kind new line change repeats steps events =
+    record { text = text; kind = kind; new = new; line = line; change = change; repeats = repeats; steps = steps; events = events }
 
 abbrev pub actionRow : Action → ActionRow
-actionRow Newt = row "NEWT" Full true true false (unknown to live ∷ []) "YYY-YYYY-YYY-"
-actionRow Modi = row "MODI" Full false true true (live to live ∷ []) "YYY--YY-Y-YY-"
-actionRow Corr = row "CORR" Full false true false (live to live ∷ closed to closed ∷ []) "------------Y"
-actionRow Term = row "TERM" Short false true false (live to closed ∷ []) "-YYYYYYYY-Y--"
-actionRow Eror = row "EROR" Short false true false (live to errored ∷ closed to errored ∷ []) "------------Y"
-actionRow Revi = row "REVI" Full false true true (errored to live ∷ closed to live ∷ []) "------------Y"
-actionRow Prto = row "PRTO" Short false false false (live to ported ∷ []) "---------Y---"
+actionRow Newt = row "NEWT" Full true true false false (unknown to live ∷ []) "YYY-YYYY-YYY-"
+actionRow Modi = row "MODI" Full false true true true (live to live ∷ []) "YYY--YY-Y-YY-"
+actionRow Corr = row "CORR" Full false true false false (live to live ∷ closed to closed ∷ []) "------------Y"
+actionRow Term = row "TERM" Short false true false false (live to closed ∷ []) "-YYYYYYYY-Y--"
+actionRow Eror = row "EROR" Short false true false false (live to errored ∷ closed to errored ∷ []) "------------Y"
+actionRow Revi = row "REVI" Full false true false true (errored to live ∷ closed to live ∷ []) "------------Y"
+actionRow Prto = row "PRTO" Short false false false false (live to ported ∷ []) "---------Y---"
 
 abbrev pub allActions : List Action
 allActions = Newt ∷ Modi ∷ Corr ∷ Term ∷ Eror ∷ Revi ∷ Prto ∷ []

@@ -12,7 +12,7 @@ pub use statuses::status_after;
 pub use table::ACTION_TYPE;
 pub use table::read_action;
 ghost use mathlib.Core.Path.{_≡_};
-ghost use Rattle.actions.specs.Actions.{isFull, writesLine, isNew, repeatsTime};
+ghost use Rattle.actions.specs.Actions.{isFull, writesLine, needsChange, isNew, repeatsTime};
 use table::Kind;
 use table::columns_of;
 
@@ -48,6 +48,13 @@ pub fn writes_line(a: Action) -> bool
     ensures { λ r. ⌜ r ≡ writesLine a ⌝ }
 {
     columns_of(a).line
+}
+
+// Whether it does so only where its masked terms are not the stored ones.
+pub fn needs_change(a: Action) -> bool
+    ensures { λ r. ⌜ r ≡ needsChange a ⌝ }
+{
+    columns_of(a).change
 }
 
 // Whether the action is that of a new swap.

@@ -15,12 +15,14 @@ pub enum Kind {
 }
 
 // What the table says of an action beside its text: its row in the matrix; the kind of its messages; whether it is a new swap's, writes
-// a line, repeats the stored execution time; the status after it from unknown, live, closed, errored, ported, 0 where no step exists.
+// a line, and only where it changes the stored terms, repeats the stored execution time; the status after it from unknown, live, closed,
+// errored, ported, 0 where no step exists.
 pub struct Columns {
     pub place: usize,
     pub kind: Kind,
     pub new: bool,
     pub line: bool,
+    pub change: bool,
     pub repeats: bool,
     pub steps: [u8; STATUSES],
 }
@@ -62,16 +64,18 @@ fn row(
     kind: Kind,
     new: bool,
     line: bool,
+    change: bool,
     repeats: bool,
     steps: [u8; STATUSES],
 ) -> Columns
-    ensures { λ r. ⌜ r ≡ record { place = place; kind = kind; new = new; line = line; repeats = repeats; steps = steps } ⌝ }
+    ensures { λ r. ⌜ r ≡ record { place = place; kind = kind; new = new; line = line; change = change; repeats = repeats; steps = steps } ⌝ }
 {
     Columns {
         place,
         kind,
         new,
         line,
+        change,
         repeats,
         steps,
     }
@@ -82,13 +86,13 @@ pub fn columns_of(a: Action) -> Columns
     ensures { λ r. ⌜ IsRow a r ⌝ }
 {
     match a {
-        Newt => row(0, Full, Y, Y, N, [1, 0, 0, 0, 0]),
-        Modi => row(1, Full, N, Y, Y, [0, 1, 0, 0, 0]),
-        Corr => row(2, Full, N, Y, N, [0, 1, 2, 0, 0]),
-        Term => row(3, Short, N, Y, N, [0, 2, 0, 0, 0]),
-        Eror => row(4, Short, N, Y, N, [0, 3, 3, 0, 0]),
-        Revi => row(5, Full, N, Y, Y, [0, 0, 1, 1, 0]),
-        Prto => row(6, Short, N, N, N, [0, 4, 0, 0, 0]),
+        Newt => row(0, Full, Y, Y, N, N, [1, 0, 0, 0, 0]),
+        Modi => row(1, Full, N, Y, Y, Y, [0, 1, 0, 0, 0]),
+        Corr => row(2, Full, N, Y, N, N, [0, 1, 2, 0, 0]),
+        Term => row(3, Short, N, Y, N, N, [0, 2, 0, 0, 0]),
+        Eror => row(4, Short, N, Y, N, N, [0, 3, 3, 0, 0]),
+        Revi => row(5, Full, N, Y, N, Y, [0, 0, 1, 1, 0]),
+        Prto => row(6, Short, N, N, N, N, [0, 4, 0, 0, 0]),
     }
 }
 

@@ -18,7 +18,7 @@ use Rattle.actions.specs.Actions.{isFull, isNew, nextStatus}
 use Rattle.notional.specs.Masking.{largestCap}
 use Rattle.terms.specs.Terms.{termsOf}
 use Rattle.rules.specs.Findings.{firstBroken, beforeRule}
-use Rattle.rules.specs.Rules.{rulesFor, rulesOf}
+use Rattle.rules.specs.Rules.{rulesFor}
 use Rattle.rules.proofs.FindingLaws.{broken-then}
 use Rattle.ledger.specs.Layout.{u32, utiSize, rowStart}
 use Rattle.ledger.specs.Header.{rowsInUse, nextIdentifier, capsIn, areCaps, headerOf}
@@ -29,12 +29,12 @@ use Rattle.ledger.proofs.RightHeader.{rows-fit, capacity-most}
 use Rattle.submission.specs.Opening.{Limits}
 use Rattle.submission.specs.Verdicts.{identifiersSpent}
 use Rattle.submission.specs.Lent.{Lent}
-use Rattle.submission.specs.Submission.{swapOf, actionIn, lineDueIn, findsSpent, identifierRule, swapRules, submissionRules, verdictOn, capOn, maskedTerms, termsFor, placeFor, rowFor, ledgerFor, lineFor, accepted, refused, concluded, submitted}
-use Rattle.submission.proofs.Acceptance.{Admitted, as-admitted, left-to-18, HasPlace, tape-test, has-place}
+use Rattle.submission.specs.Submission.{swapOf, actionIn, lineDue, lineDueIn, findsSpent, identifierRule, submissionRules, admittingRules, verdictOn, capOn, maskedTerms, termsFor, placeFor, rowFor, ledgerFor, lineFor, accepted, refused, concluded, submitted}
+use Rattle.submission.proofs.Acceptance.{Admitted, as-admitted, eighteen-last, left-to-18, HasPlace, tape-test, has-place}
 use Rattle.repository.specs.declared.decide.Admission.{Admission}
 use Rattle.repository.specs.declared.decide.Decision.{Decision}
 use Rattle.repository.specs.declared.decide.Decision.the-variants.{Refused, Value}
-use Rattle.repository.specs.Decision.{admissionIn, decidedOn, admittingRules, decision, submittedBy, Writable}
+use Rattle.repository.specs.Decision.{admissionIn, decidedOn, decision, submittedBy, Writable}
 
 -- the value that was looked up fits the row
 pub uti-fits : (u v : Bytes) → length v ≤ utiSize → u ≡ v → length u ≤ utiSize
@@ -45,13 +45,13 @@ uti-fits u v h e = rw e h
 module _ (limits : Limits) (lent : Lent) (m : Bytes) where
   -- the first rule broken, 18 left aside
   abbrev found : ℕ × ℕ
-  found = firstBroken (admittingRules limits lent m)
+  found = firstBroken (admittingRules limits (actionIn m) lent m)
 
   -- a rule before 18 that is broken is the first one broken
   first-found : (a : Action) → actionIn m ≡ checked.Value a → eqb (found .0) 0 ≡ false → verdictOn limits lent m ≡ found
-  unfolding verdictOn submissionRules rulesFor rulesOf swapRules beforeRule
+  unfolding verdictOn
   first-found a g z =
-      rw g (broken-then (beforeRule identifiersSpent (submissionRules limits (checked.Value a) lent m)) (identifierRule a (lent .ledger) m ∷ []) (eqb-false _ _ (rw g at z)))
+      rw g (ap firstBroken (eighteen-last limits lent m a) ∙ broken-then (admittingRules limits (checked.Value a) lent m) (identifierRule a (lent .ledger) m ∷ []) (eqb-false _ _ (rw g at z)))
 
   refused-with : (a : Action) → actionIn m ≡ checked.Value a → eqb (found .0) 0 ≡ false → submitted limits lent m ≡ refused found lent
   unfolding submitted
@@ -151,6 +151,10 @@ module _ {lent : Lent} {m : Bytes} {s : Admission} (f : Writable lent m s) where
       by : (b : Bool) → choose b (termsOf (choose b (capOn (capsIn l) m) 0) m) (storedTerms (rowAt l (placeOf l (swapOf m)))) ≡ choose b (termsOf (capOn (capsIn l) m) m) (storedTerms (rowAt l (placeOf l (swapOf m))))
       by true = refl
       by false = refl
+
+  pub due-is : lineDue (s .action) (termsFor (s .action) l m) (storedTerms (rowAt l (s .place))) ≡ lineDueIn (s .action) l m
+  unfolding lineDueIn
+  due-is = rw place-is
 
   pub next-is : s .next ≡ nextIdentifier l
   unfolding headerOf

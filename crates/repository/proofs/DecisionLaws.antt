@@ -29,10 +29,10 @@ use Rattle.ledger.specs.Rows.{rowAt, storedTime, swapTime, swapIn}
 use Rattle.submission.specs.Verdicts.{ledgerWrong, rowWrong, identifiersSpent}
 use Rattle.submission.specs.Opening.{Limits}
 use Rattle.submission.specs.Lent.{Lent}
-use Rattle.submission.specs.Submission.{swapOf, actionIn, capOn, hasWrongRow, swapRules, rulesIn, afterRules, submissionRules}
+use Rattle.submission.specs.Submission.{swapOf, actionIn, capOn, hasWrongRow, swapRules, rulesIn, afterRules, submissionRules, admittingRules}
 use Rattle.repository.specs.declared.decide.Decision.{Decision}
 use Rattle.repository.specs.declared.decide.Decision.the-variants.{Refused}
-use Rattle.repository.specs.Decision.{admissionFor, decidedOn, admittingRules, decision, decisionFrom, decidedFrom, decisionIn, HeaderRead}
+use Rattle.repository.specs.Decision.{admissionFor, decidedOn, decision, decisionFrom, decidedFrom, decisionIn, HeaderRead}
 
 refuses : (n e : ℕ) (r : Checked) (l m : Bytes) → eqb n 0 ≡ false → decidedOn (n, e) r l m ≡ Refused n e
 refuses n e (checked.Fault code) l m h = refl
@@ -59,9 +59,9 @@ module _ (longest : ℕ) (l m : Bytes) where
   left-by (checked.Value a) = left-with a (eqb (firstBroken (rs a) .0) 0) refl
 
 -- a test that stops the decision
-pub test-stops : (n : ℕ) (limits : Limits) (lent : Lent) (m : Bytes) → eqb n 0 ≡ false → findingOf n (admittingRules limits lent m) ≡ broken 0 → Refused n 0 ≡ decisionFrom n limits lent m
+pub test-stops : (n : ℕ) (limits : Limits) (lent : Lent) (m : Bytes) → eqb n 0 ≡ false → findingOf n (admittingRules limits (actionIn m) lent m) ≡ broken 0 → Refused n 0 ≡ decisionFrom n limits lent m
 unfolding decisionFrom
-test-stops n limits lent m some f = sym (ap (λ v. decidedOn v (actionIn m) (lent .ledger) m) (stops-at n 0 (admittingRules limits lent m) f) ∙ refuses n 0 (actionIn m) (lent .ledger) m some)
+test-stops n limits lent m some f = sym (ap (λ v. decidedOn v (actionIn m) (lent .ledger) m) (stops-at n 0 (admittingRules limits (actionIn m) lent m) f) ∙ refuses n 0 (actionIn m) (lent .ledger) m some)
 
 module _ (limits : Limits) (lent : Lent) (m : Bytes) where
   -- 3 is the first rule

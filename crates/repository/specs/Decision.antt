@@ -1,7 +1,6 @@
 -- What a submission decides by reading, as the code's enums have it, and what it does then: the specification's number and values for each case.
 use Prim.Native.Nat.{ℕ, _+_, _^_, _<_, _≤_}
 use mathlib.Core.Path.{_≡_}
-use mathlib.Core.List.{List}
 use lib.ListN.{length}
 use lib.Dec.{eqb}
 use Rattle.octets.specs.Bytes.{Bytes}
@@ -11,7 +10,7 @@ use Rattle.actions.specs.declared.Checked.{Checked}
 use Rattle.actions.specs.declared.Checked.the-variants as checked
 use Rattle.actions.specs.Actions.{isFull, nextStatus}
 use Rattle.notional.specs.Masking.{largestCap}
-use Rattle.rules.specs.Findings.{Rule, firstBroken, fromRule, beforeRule}
+use Rattle.rules.specs.Findings.{firstBroken, fromRule}
 use Rattle.ledger.specs.Layout.{u32, utiSize, rowStart, lineSize, identifierLimit}
 use Rattle.ledger.specs.declared.header.Header.{Header}
 use Rattle.ledger.specs.declared.search.Swap.{Swap}
@@ -20,7 +19,7 @@ use Rattle.ledger.specs.Rows.{swapIn}
 use Rattle.submission.specs.Opening.{Limits}
 use Rattle.submission.specs.Lent.{Lent}
 use Rattle.submission.specs.Verdicts.{identifiersSpent}
-use Rattle.submission.specs.Submission.{swapOf, actionIn, lineDueIn, findsSpent, capOn, swapRules, rulesIn, rulesOn, placeFor, Submitted, accepted, refused}
+use Rattle.submission.specs.Submission.{swapOf, actionIn, lineDueIn, findsSpent, capOn, swapRules, rulesIn, admittingRules, placeFor, Submitted, accepted, refused}
 use Rattle.repository.specs.declared.answer.Answer.{Answer}
 use Rattle.repository.specs.declared.decide.Admission.{Admission}
 use Rattle.repository.specs.declared.decide.Decision.{Decision}
@@ -47,16 +46,13 @@ abbrev pub decidedOn : ℕ × ℕ → Checked → Bytes → Bytes → Decision
 decidedOn v (checked.Fault code) l m = Refused (v .0) (v .1)
 decidedOn v (checked.Value a) l m = decided v (admissionIn a l m)
 
--- every rule but 18, which is judged when the decision is made
-abbrev pub admittingRules : Limits → Lent → Bytes → List Rule
-admittingRules limits lent m = beforeRule identifiersSpent (rulesOn limits lent m)
-
+-- by every rule but 18, which is judged when the decision is made
 unfoldable pub decision : Limits → Lent → Bytes → Decision
-decision limits lent m = decidedOn (firstBroken (admittingRules limits lent m)) (actionIn m) (lent .ledger) m
+decision limits lent m = decidedOn (firstBroken (admittingRules limits (actionIn m) lent m)) (actionIn m) (lent .ledger) m
 
 -- what is left to decide where no rule before number n is broken
 unfoldable pub decisionFrom : ℕ → Limits → Lent → Bytes → Decision
-decisionFrom n limits lent m = decidedOn (firstBroken (fromRule n (admittingRules limits lent m))) (actionIn m) (lent .ledger) m
+decisionFrom n limits lent m = decidedOn (firstBroken (fromRule n (admittingRules limits (actionIn m) lent m))) (actionIn m) (lent .ledger) m
 
 -- the same among rules 14 to 17, by what is known of the swap
 unfoldable pub decidedFrom : ℕ → Header → Swap → Bytes → Bytes → Admission → Decision

@@ -1,7 +1,7 @@
 -- The demands, as the contracts of the exported operations cite them: each is a theorem of `submission`. An answer in one number has its own law.
 use Rattle.submission.specs.Opening.{documentLimits}
 use Rattle.submission.specs.Demand1.{Submission-answers, Opening-answers, Question-answers}
-use Rattle.submission.specs.Demand2.{Verdict-exactly, Checking-order, Accepted-exactly, Writes-under, Acceptance-writes, Opening-exactly, Opening-writes, Opening-passes-under, Opening-passes, Question-exactly}
+use Rattle.submission.specs.Demand2.{Verdict-exactly, Checking-order, Accepted-exactly, Line-due-exactly, Quiet-modification-under, Quiet-modification, Writes-under, Acceptance-writes, Opening-exactly, Opening-writes, Opening-passes-under, Opening-passes, Question-exactly}
 use Rattle.submission.specs.Demand3.{Same-tapes-under, Same-tapes, Masked-terms-public}
 use Rattle.submission.specs.Published.{Tape-published-under, Tape-published}
 use Rattle.submission.specs.Counting.{Identifier-with-line, Identifier-counts-under, Identifier-counts, Quiet-call}
@@ -17,6 +17,8 @@ pub record Submission-demands : Type 0 where
   pub exactly : Verdict-exactly
   pub order : Checking-order
   pub accepted : Accepted-exactly
+  pub due : Line-due-exactly
+  pub modification : Quiet-modification
   pub writes : Acceptance-writes
   pub tapes : Same-tapes
   pub published : Tape-published
@@ -27,6 +29,7 @@ pub record Submission-demands : Type 0 where
   -- whatever the parties, package names, settlement dates and true amounts
   pub terms : Masked-terms-public
   -- those that ask something of the limits, at the specification's
+  pub modification-here : Quiet-modification-under documentLimits
   pub writes-here : Writes-under documentLimits
   pub tapes-here : Same-tapes-under documentLimits
   pub published-here : Tape-published-under documentLimits

@@ -9,7 +9,7 @@ ghost use Rattle.terms.specs.Terms.{termsSize, termsOf};
 ghost use Rattle.ledger.specs.Layout.{rowStart};
 ghost use Rattle.ledger.specs.Rows.{rowAt, storedTerms};
 ghost use Rattle.submission.specs.Lent.{lentOf};
-ghost use Rattle.submission.specs.Submission.{findsSpent};
+ghost use Rattle.submission.specs.Submission.{lineDue, findsSpent};
 ghost use Rattle.repository.specs.Answers.{answerWith, submissionAnswer};
 ghost use Rattle.repository.specs.Decision.{finished, Writable};
 use crate::answer::Answer;
@@ -19,10 +19,12 @@ use crate::decide::Admission;
 use crate::verdicts::IDENTIFIERS_SPENT;
 use actions::Action;
 use actions::is_full;
+use actions::needs_change;
 use actions::writes_line;
 use ledger::IDENTIFIER_LIMIT;
 use ledger::terms_at;
 use octets::copy;
+use octets::same;
 use terms::SIZE;
 use terms::write_terms;
 
@@ -36,6 +38,17 @@ fn collect_terms(dst: &mut [u8], l: &[u8], place: usize, a: Action, cap: u64, m:
         return;
     }
     copy(dst, terms_at(l, place));
+}
+
+// Whether a line is due: by the action, and for one that needs a change by the terms that it would show and those that are stored. With
+// `same_long` here the row search would call it and not have it in its loop, which costs six instructions a row.
+fn is_line_due(a: Action, terms: &[u8], stored: &[u8]) -> bool
+    ensures { λ r. ⌜ r ≡ lineDue a (now (terms .entry)) (now (stored .entry)) ⌝ }
+{
+    if !needs_change(a) {
+        return writes_line(a);
+    }
+    !same(terms, stored)
 }
 
 // Whether a line is due and identifiers are spent (18).
@@ -69,7 +82,7 @@ pub fn conclude(l: &mut [u8], tape: &mut [u8], m: &[u8], s: Admission) -> Answer
     let a = s.action;
     let mut terms = [b' '; SIZE];
     collect_terms(&mut terms, l, s.place, a, s.cap, m);
-    let due = writes_line(a);
+    let due = is_line_due(a, &terms, terms_at(l, s.place));
     if finds_spent(due, s.next) {
         return refusal(IDENTIFIERS_SPENT, 0);
     }

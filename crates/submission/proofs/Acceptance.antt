@@ -2,7 +2,7 @@
 use Prim.Native.Nat.{ℕ, suc, _<_, _≤_}
 use mathlib.Core.Bool.{Bool, true, false, not, false≢true}
 use mathlib.Core.Path.{_≡_, refl, sym, ap, _∙_, subst}
-use mathlib.Core.List.{List, [], _∷_, _++_}
+use mathlib.Core.List.{[], _∷_, _++_}
 use native.Mathlib.Omega.{arith}
 use lib.ListN.{length}
 use lib.Dec.{eqb, leb, ltb, lit≤}
@@ -25,7 +25,7 @@ use Rattle.elements.specs.Messages.{needs as is-needed}
 use Rattle.elements.specs.Table.{elementOf}
 use Rattle.rules.specs.declared.checks.Check.the-variants.{Needed, Formed}
 use Rattle.rules.specs.Verdicts.{layoutWrong, actionWrong, elementMissing, formBroken}
-use Rattle.rules.specs.Findings.{passed, broken, Rule, test, firstBroken, findingOf, fromRule, beforeRule, AllPassed}
+use Rattle.rules.specs.Findings.{passed, broken, test, firstBroken, findingOf, fromRule, beforeRule, AllPassed}
 use Rattle.rules.specs.Rules.{rulesFor, rulesOf, atFault}
 use Rattle.rules.proofs.FindingLaws.{not-broken, unused, distinct, all-passed, is-passed, none-broken, passed-before, passed-from, passed-front, passed-then, lowest-passed}
 use Rattle.ledger.specs.Layout.{utiSize, lineSize}
@@ -35,7 +35,7 @@ use Rattle.ledger.proofs.RightHeader.{right-header}
 use Rattle.submission.specs.Verdicts.{ledgerWrong, tapeShort, rowWrong, notAdmitted, otherTime, ledgerFull, identifiersSpent}
 use Rattle.submission.specs.Opening.{Limits}
 use Rattle.submission.specs.Lent.{Lent}
-use Rattle.submission.specs.Submission.{swapOf, actionIn, lineDueIn, rowRight, hasWrongRow, isNotAdmitted, hasOtherTime, findsFull, findsSpent, identifierRule, swapRules, rulesIn, submissionRules, rulesOn, verdictOn, placeFor, accepted, refused, concluded, submitted}
+use Rattle.submission.specs.Submission.{swapOf, actionIn, lineDueIn, rowRight, hasWrongRow, isNotAdmitted, hasOtherTime, findsFull, findsSpent, identifierRule, swapRules, rulesIn, submissionRules, rulesOn, admittingRules, verdictOn, placeFor, accepted, refused, concluded, submitted}
 
 -- ---- the rules
 
@@ -46,11 +46,7 @@ module _ (limits : Limits) (lent : Lent) (m : Bytes) where
   numbers-differ (Fault code) = refl
   numbers-differ (Value a) = refl
 
-  -- every rule but 18
-  abbrev pub admitting : Checked → List Rule
-  admitting r = beforeRule identifiersSpent (submissionRules limits r lent m)
-
-  admitting-differ : (r : Checked) → distinct (admitting r) ≡ true
+  admitting-differ : (r : Checked) → distinct (admittingRules limits r lent m) ≡ true
   unfolding submissionRules rulesFor rulesOf swapRules unused distinct beforeRule
   admitting-differ (Fault code) = refl
   admitting-differ (Value a) = refl
@@ -59,18 +55,18 @@ module _ (limits : Limits) (lent : Lent) (m : Bytes) where
   pub record Admitted : Type 0 where
     pub action : Action
     pub reads : actionIn m ≡ Value action
-    pub passes : AllPassed (admitting (Value action))
+    pub passes : AllPassed (admittingRules limits (Value action) lent m)
 
-  pub as-admitted : firstBroken (admitting (actionIn m)) .0 ≡ 0 → Admitted
+  pub as-admitted : firstBroken (admittingRules limits (actionIn m) lent m) .0 ≡ 0 → Admitted
   unfolding submissionRules rulesFor findingOf beforeRule
   as-admitted v = by (actionIn m) refl
     where
-      passing : (r : Checked) → actionIn m ≡ r → AllPassed (admitting r)
-      passing r e = all-passed (admitting r) (admitting-differ r) (ap (λ r. firstBroken (admitting r) .0) (sym e) ∙ v)
+      passing : (r : Checked) → actionIn m ≡ r → AllPassed (admittingRules limits r lent m)
+      passing r e = all-passed (admittingRules limits r lent m) (admitting-differ r) (ap (λ r. firstBroken (admittingRules limits r lent m) .0) (sym e) ∙ v)
 
       by : (r : Checked) → actionIn m ≡ r → Admitted
       by (Fault code) e =
-          let p : broken code ≡ passed = is-passed actionWrong (admitting (Fault code)) (passing (Fault code) e) in
+          let p : broken code ≡ passed = is-passed actionWrong (admittingRules limits (Fault code) lent m) (passing (Fault code) e) in
           let z : _≡_ {A = ℕ} 0 1 = cc in
           absurd (omega arith)
       by (Value a) e = record { action = a; reads = e; passes = passing (Value a) e }
@@ -81,9 +77,9 @@ module _ (limits : Limits) (lent : Lent) (m : Bytes) where
     pub spare : findsSpent (lineDueIn (admitted .action) (lent .ledger) m) (nextIdentifier (lent .ledger)) ≡ false
 
   -- 18 stands behind the other rules
-  whole-is : (a : Action) → submissionRules limits (Value a) lent m ≡ admitting (Value a) ++ (identifierRule a (lent .ledger) m ∷ [])
+  pub eighteen-last : (a : Action) → submissionRules limits (Value a) lent m ≡ admittingRules limits (Value a) lent m ++ (identifierRule a (lent .ledger) m ∷ [])
   unfolding submissionRules rulesFor rulesOf swapRules beforeRule
-  whole-is a = refl
+  eighteen-last a = refl
 
   is-spare : (a : Action) → AllPassed (submissionRules limits (Value a) lent m) → findsSpent (lineDueIn a (lent .ledger) m) (nextIdentifier (lent .ledger)) ≡ false
   unfolding submissionRules rulesFor rulesOf swapRules findingOf
@@ -93,7 +89,7 @@ module _ (limits : Limits) (lent : Lent) (m : Bytes) where
   unfolding verdictOn
   as-accepted v =
       let all : AllPassed (rulesOn limits lent m) = all-passed (rulesOn limits lent m) (numbers-differ (actionIn m)) v in
-      let c : Admitted = as-admitted (ap (λ x. x .0) (none-broken (admitting (actionIn m)) (passed-before identifiersSpent (rulesOn limits lent m) all))) in
+      let c : Admitted = as-admitted (ap (λ x. x .0) (none-broken (admittingRules limits (actionIn m) lent m) (passed-before identifiersSpent (rulesOn limits lent m) all))) in
       record { admitted = c; spare = is-spare (c .action) (subst (λ r. AllPassed (submissionRules limits r lent m)) (c .reads) all) }
 
   -- the first rule broken where every rule but 18 admits the message: 18 or none
@@ -101,8 +97,8 @@ module _ (limits : Limits) (lent : Lent) (m : Bytes) where
   unfolding verdictOn firstBroken
   left-to-18 c =
       ap (λ r. firstBroken (submissionRules limits r lent m)) (c .reads)
-      ∙ ap firstBroken (whole-is (c .action))
-      ∙ passed-then (admitting (Value (c .action))) (identifierRule (c .action) (lent .ledger) m ∷ []) (c .passes)
+      ∙ ap firstBroken (eighteen-last (c .action))
+      ∙ passed-then (admittingRules limits (Value (c .action)) lent m) (identifierRule (c .action) (lent .ledger) m ∷ []) (c .passes)
       ∙ by (findsSpent (lineDueIn (c .action) (lent .ledger) m) (nextIdentifier (lent .ledger)))
     where
       by : (b : Bool) → firstBroken (test identifiersSpent b ∷ []) ≡ choose b (identifiersSpent, 0) (0, 0)
@@ -149,8 +145,8 @@ module _ {limits : Limits} {lent : Lent} {m : Bytes} (c : Admitted limits lent m
   a = c .action
 
   -- the rule with number n
-  rule-passed : (n : ℕ) → findingOf n (admitting limits lent m (Value a)) ≡ passed
-  rule-passed n = is-passed n (admitting limits lent m (Value a)) (c .passes)
+  rule-passed : (n : ℕ) → findingOf n (admittingRules limits (Value a) lent m) ≡ passed
+  rule-passed n = is-passed n (admittingRules limits (Value a) lent m) (c .passes)
 
   pub header-test : headerRight (limits .largest) l ≡ true
   unfolding submissionRules rulesFor rulesOf swapRules findingOf beforeRule
@@ -175,7 +171,7 @@ module _ {limits : Limits} {lent : Lent} {m : Bytes} (c : Admitted limits lent m
   -- the rules of the message alone
   pub message-passes : AllPassed (rulesFor (Value a) (limits .longest) m)
   unfolding submissionRules rulesFor rulesOf swapRules fromRule beforeRule
-  message-passes = passed-front (rulesFor (Value a) (limits .longest) m) (rulesIn a l m) (passed-from layoutWrong (admitting limits lent m (Value a)) (c .passes))
+  message-passes = passed-front (rulesFor (Value a) (limits .longest) m) (rulesIn a l m) (passed-from layoutWrong (admittingRules limits (Value a) lent m) (c .passes))
 
   pub room-test : both (isNew a) (eqb (rowsInUse l) (capacityIn l)) ≡ false
   unfolding submissionRules rulesFor rulesOf swapRules findingOf beforeRule findsFull headerOf

@@ -8,13 +8,17 @@ use lib.ListN.{length}
 use lib.Dec.{eqb}
 use Rattle.octets.specs.Bytes.{Bytes}
 use Rattle.octets.specs.Choice.{choose, both}
-use Rattle.octets.proofs.ChoiceLaws.{both-first}
+use Rattle.octets.proofs.ChoiceLaws.{both-first, both-none}
+use Rattle.actions.specs.declared.Action.the-variants.{Modi}
+use Rattle.actions.specs.declared.Checked.the-variants.{Value}
+use Rattle.rules.specs.Findings.{AllPassed}
 use Rattle.ledger.specs.declared.header.Caps.{Caps}
 use Rattle.ledger.specs.Layout.{u32}
-use Rattle.ledger.specs.Header.{nextIdentifier}
+use Rattle.ledger.specs.Header.{nextIdentifier, capsIn}
+use Rattle.ledger.specs.Rows.{storedTerms, swapRow}
 use Rattle.submission.specs.Opening.{Limits}
-use Rattle.submission.specs.Lent.{Lent}
-use Rattle.submission.specs.Submission.{lineDueIn}
+use Rattle.submission.specs.Lent.{Buffers, Lent}
+use Rattle.submission.specs.Submission.{swapOf, actionIn, lineDueIn, admittingRules, maskedTerms}
 use Rattle.submission.specs.History.{Call, submit, messageOf, answerTo, ledgerAfter, ledgerAfterAll, hasAction, publishes, lineOf, tape}
 use Rattle.submission.specs.Demand3.{start}
 use Rattle.submission.specs.Published.{published}
@@ -23,6 +27,8 @@ use Rattle.submission.proofs.Acceptance.{has-place}
 use Rattle.submission.proofs.Outcome.{by-outcome}
 use Rattle.submission.proofs.PublishedTape.{LedgerAgrees, kept-agreeing}
 use Rattle.submission.proofs.Opened.{start-agrees}
+use Rattle.submission.proofs.Demand2.{quiet-modification}
+use Rattle.submission.proofs.LineDueLaws.{line-due-exactly}
 
 pub kept-by-calls : Kept-by-calls
 unfolding ledgerAfterAll
@@ -92,3 +98,15 @@ pub quiet-call : Quiet-call
 unfolding tape ledgerAfterAll lineOf
 quiet-call limits l [] c after same none = rw (none, same)
 quiet-call limits l (b ∷ before) c after same none = ap (λ rest. lineOf limits l b ++ rest) (quiet-call limits (ledgerAfter limits l b) before c after same none)
+
+-- so does a modification that shows nothing
+pub quiet-modification-call : (limits : Limits) → limits .largest < 256 ^ u32 → (l : Bytes) (before : List Call) (m : Bytes) (b : Buffers) (after : List Call) → actionIn m ≡ Value Modi
+    → AllPassed (admittingRules limits (actionIn m) (record { ledger = ledgerAfterAll limits l before; buffers = b }) m)
+    → maskedTerms (capsIn (ledgerAfterAll limits l before)) m ≡ storedTerms (swapRow (ledgerAfterAll limits l before) (swapOf m))
+    → tape limits l (before ++ (submit m b ∷ after)) ≡ tape limits l (before ++ after)
+unfolding publishes
+quiet-modification-call limits small l before m b after reads passes same =
+    let found : Bytes = ledgerAfterAll limits l before in
+    let answer = quiet-modification limits small (record { ledger = found; buffers = b }) m reads passes same in
+    quiet-call limits l before (submit m b) after (ap (λ s. s .lent .ledger) answer)
+    (rw (reads, line-due-exactly Modi found m .modification refl .1 same) (both-none (eqb (answerTo limits found (submit m b) .verdict) 0) false refl))

@@ -18,12 +18,12 @@ use Rattle.octets.proofs.FieldRun.{front-placed, front-later}
 use Rattle.values.specs.Run.{within}
 use Rattle.terms.specs.Terms.{termsSize}
 use Rattle.actions.specs.declared.Action.{Action}
-use Rattle.actions.specs.declared.Action.the-variants.{Newt}
+use Rattle.actions.specs.declared.Action.the-variants.{Newt, Modi}
 use Rattle.actions.specs.declared.Checked.{Checked}
 use Rattle.actions.specs.declared.Checked.the-variants.{Value}
 use Rattle.actions.specs.Actions.{isFull, isNew, repeatsTime, nextStatus}
 use Rattle.actions.specs.Statuses.{live, ported, noStep}
-use Rattle.actions.proofs.KindLaws.{is-newt, old-if-repeats}
+use Rattle.actions.proofs.KindLaws.{is-newt, modi-stays, old-if-repeats}
 use Rattle.elements.specs.Codes.{uti}
 use Rattle.elements.specs.Forms.{hasForm}
 use Rattle.rules.specs.Verdicts.{formBroken}
@@ -46,9 +46,10 @@ use Rattle.submission.specs.Opening.{Limits, openingRules, openingVerdic
 use Rattle.submission.specs.Lent.{Lent}
 use Rattle.submission.specs.Status.{statusRules, asked}
 use Rattle.submission.specs.Submission.{submitted, swapOf, actionIn, lineDueIn, rowRight, hasWrongRow, isNotAdmitted, hasOtherTime, findsFull, findsSpent, swapRules, afterRules, submissionRules, rulesOn, verdictOn, maskedTerms, termsFor, placeFor, rowFor, ledgerFor, lineFor, tapeFor}
-use Rattle.submission.specs.Demand2.{Verdict-exactly, Checking-order, RightRow, RulesAccept, Accepted-exactly, Outside, LedgerWritten, TapeWritten, Acceptance-writes, OpeningExactly, Opening-exactly, Opening-passes, Opening-writes, QuestionExactly, Question-exactly}
-use Rattle.submission.proofs.Acceptance.{numbers-differ, Admitted, Accepted, accepted-answer, step-known, HasPlace, has-place, tape-room, row-right as passed-row, status-test, time-test, message-passes, room-test}
-use Rattle.submission.proofs.Lookup.{old-unless-due, new-due, same-terms, row-whole, length-shown, length-after, ledger-length, new-place, old-place, rows-raised, next-raised, row-written}
+use Rattle.submission.specs.Demand2.{Verdict-exactly, Checking-order, RightRow, RulesAccept, Accepted-exactly, Quiet-modification, Outside, LedgerWritten, TapeWritten, Acceptance-writes, OpeningExactly, Opening-exactly, Opening-passes, Opening-writes, QuestionExactly, Question-exactly}
+use Rattle.submission.proofs.LineDueLaws.{line-due-exactly, old-unless-due, new-due, same-terms}
+use Rattle.submission.proofs.Acceptance.{numbers-differ, Admitted, as-admitted, Accepted, accepted-answer, step-known, HasPlace, has-place, tape-room, row-right as passed-row, status-test, time-test, message-passes, room-test}
+use Rattle.submission.proofs.Lookup.{row-whole, length-shown, length-after, ledger-length, new-place, old-place, ledger-stays, rows-raised, next-raised, row-written}
 use Rattle.submission.proofs.Outcome.{when-accepted, verdict-is}
 use Rattle.submission.proofs.Opened.{long-enough, start-is, start-right}
 use Rattle.submission.proofs.Demand1.{element-is}
@@ -177,6 +178,24 @@ module _ (limits : Limits) (lent : Lent) (m : Bytes) where
 
 pub accepted-exactly : Accepted-exactly
 accepted-exactly limits lent m = (rules-accept limits lent m, submission-accepts limits lent m)
+
+-- ---- whether a line is due
+
+-- nothing moves where no line is due and the status stays
+quiet-answer : {limits : Limits} {lent : Lent} {m : Bytes} (c : Admitted limits lent m) → limits .largest < 256 ^ u32 → c .action ≡ Modi → lineDueIn (c .action) (lent .ledger) m ≡ false
+    → submitted limits lent m ≡ record { verdict = 0; element = 0; identifier = 0; lent = lent }
+unfolding findsSpent
+quiet-answer {limits} {lent} {m} c small is due =
+    let l : Bytes = lent .ledger in
+    let step : nextStatus (c .action) (swapStatus l (swapOf m)) ≡ swapStatus l (swapOf m) = rw is (modi-stays _ (rw is at (status-test c))) in
+    accepted-answer (record { admitted = c; spare = rw due }) ∙ rw (due, ledger-stays (has-place c) small due step)
+
+pub quiet-modification : Quiet-modification
+quiet-modification limits small lent m reads passes same =
+    let c : Admitted limits lent m = as-admitted limits lent m (ap (λ v. v .0) (none-broken _ passes)) in
+    let two : Value (c .action) ≡ Value Modi = sym (c .reads) ∙ reads in
+    let is : c .action ≡ Modi = cc in
+    quiet-answer c small is (line-due-exactly (c .action) (lent .ledger) m .modification is .1 same)
 
 -- ---- what an accepted message writes
 

@@ -17,7 +17,7 @@ tape-published limits small caps l h v = published-from limits small h (start li
 pub same-tapes : Same-tapes
 same-tapes limits small caps l₁ l₂ h₁ h₂ v₁ v₂ alike =
     tape-published limits small caps l₁ h₁ v₁
-    ∙ same-published caps limits h₁ h₂ (start limits caps l₁) (start limits caps l₂) alike
+    ∙ same-published caps limits small h₁ h₂ (start limits caps l₁) (start limits caps l₂) (start-agrees limits caps l₁ v₁) (start-agrees limits caps l₂ v₂) alike
     ∙ sym (tape-published limits small caps l₂ h₂ v₂)
 
 pub masked-terms-public : Masked-terms-public

@@ -1,3 +1,4 @@
+pub mod LineDueLaws
 pub mod Acceptance
 pub mod Lookup
 pub mod Outcome

@@ -1,6 +1,6 @@
 -- The ledger after an accepted message: its header's numbers, the row of the message's swap, and that of any other. Assumes nothing.
 use Prim.Native.Nat.{ℕ, suc, _+_, _^_, _<_, _≤_}
-use mathlib.Core.Bool.{Bool, true, false, false≢true}
+use mathlib.Core.Bool.{Bool, true, false}
 use mathlib.Core.Path.{_≡_, refl, sym, ap, _∙_, subst}
 use mathlib.Core.Logic.{_↔_}
 use native.Mathlib.Numerals.{add-one}
@@ -22,17 +22,18 @@ use Rattle.terms.specs.Terms.{termsSize}
 use Rattle.terms.proofs.TermLaws.{length-terms}
 use Rattle.actions.specs.declared.Action.{Action}
 use Rattle.actions.specs.Actions.{isFull, isNew, nextStatus}
-use Rattle.actions.proofs.KindLaws.{old-unless-full, line-if-full}
+use Rattle.actions.proofs.KindLaws.{old-unless-full}
 use Rattle.ledger.specs.declared.header.Caps.{Caps}
 use Rattle.ledger.specs.Layout.{u32, lengthAt, utiAt, utiSize, termsAt, headerSize, rowSize, rowStart}
 use Rattle.ledger.specs.Header.{rowsInUse, nextIdentifier, capacityIn, capsIn}
-use Rattle.ledger.specs.Rows.{rowAt, storedTerms, holdsUti, placeIn, placeOf, isKnown, swapRow, swapStatus, newRow}
+use Rattle.ledger.specs.Rows.{rowAt, statusOf, storedTerms, holdsUti, placeIn, placeOf, isKnown, swapRow, swapStatus, newRow, headerAfter}
 use Rattle.ledger.proofs.RowLaws as row
 use Rattle.ledger.proofs.RightHeader.{rows-fit, capacity-most}
 use Rattle.ledger.proofs.RowAfterLaws.{length-row-after}
 use Rattle.ledger.proofs.RowFields.{new-holds, after-holds}
 use Rattle.ledger.proofs.ReadBack.{row-length, row-rows, row-next, row-caps, row-same, row-other, raised-caps, raised-row, raised-length, raised-rows, raised-next}
 use Rattle.submission.specs.Submission.{swapOf, lineDueIn, capOn, maskedTerms, termsFor, placeFor, rowFor, ledgerFor}
+use Rattle.submission.proofs.LineDueLaws.{old-unless-due, new-due}
 use Rattle.submission.proofs.Acceptance.{HasPlace}
 
 -- ---- a row holds one UTI
@@ -61,25 +62,6 @@ length-masked caps m = length-terms (capOn caps m) m
 pub length-stored : (r : Bytes) → length r ≡ rowSize → length (storedTerms r) ≡ termsSize
 unfolding storedTerms
 length-stored r size = length-part r termsAt termsSize (omega arith)
-
--- ---- whether a line is due
-
--- NEWT has a line
-pub old-unless-due : (a : Action) (l m : Bytes) → lineDueIn a l m ≡ false → isNew a ≡ false
-unfolding lineDueIn
-old-unless-due a l m e = old-unless-full a (line-if-full a e)
-
-pub new-due : (a : Action) (l m : Bytes) → isNew a ≡ true → lineDueIn a l m ≡ true
-new-due a l m e = by (lineDueIn a l m) refl
-  where
-    by : (b : Bool) → lineDueIn a l m ≡ b → lineDueIn a l m ≡ true
-    by true d = d
-    by false d = absurd (false≢true (sym (old-unless-due a l m d) ∙ e))
-
--- a full message without a line has the stored terms
-pub same-terms : (a : Action) (l m : Bytes) → isFull a ≡ true → lineDueIn a l m ≡ false → maskedTerms (capsIn l) m ≡ storedTerms (swapRow l (swapOf m))
-unfolding lineDueIn
-same-terms a l m full e = absurd (false≢true (sym (line-if-full a e) ∙ full))
 
 -- ---- the ledger after
 
@@ -152,6 +134,18 @@ module _ {largest : ℕ} {l m : Bytes} {a : Action} (f : HasPlace largest l m a)
   row-kept : (j : ℕ) → (j ≡ placeFor a l m → ⊥) → rowAt (ledgerFor a l m) j ≡ rowAt l j
   unfolding ledgerFor
   row-kept j differ = raised-row a (lineDueIn a l m) (rowsInUse l) (nextIdentifier l) stored header-there j ∙ row-other l (rowFor a l m) (placeFor a l m) length-after here j differ
+
+  -- where no line is due and the status stays, nothing moves
+  row-stays : lineDueIn a l m ≡ false → nextStatus a (swapStatus l (swapOf m)) ≡ swapStatus l (swapOf m) → rowFor a l m ≡ rowAt l (placeFor a l m)
+  unfolding rowFor swapStatus
+  row-stays due step =
+      let old : isNew a ≡ false = old-unless-due a l m due in
+      let status : nextStatus a (swapStatus l (swapOf m)) ≡ statusOf (rowAt l (placeFor a l m)) = step ∙ rw (f .known old, old-place old) in
+      rw (due, status) (row.status-own (rowAt l (placeFor a l m)) (row-whole (placeFor a l m) (f .place)))
+
+  pub ledger-stays : lineDueIn a l m ≡ false → nextStatus a (swapStatus l (swapOf m)) ≡ swapStatus l (swapOf m) → ledgerFor a l m ≡ l
+  unfolding ledgerFor headerAfter
+  ledger-stays due step = rw (due, old-unless-due a l m due, row-stays due step) (row.row-own l (placeFor a l m) (omega (arith, here)))
 
   -- ---- which UTIs the rows hold
 

@@ -1,5 +1,5 @@
 -- Two histories whose premises hold publish messages that tell the same tape. Assumes nothing.
-use Prim.Native.Nat.{ℕ, suc, _<_}
+use Prim.Native.Nat.{ℕ, suc, _^_, _<_}
 use mathlib.Core.Bool.{Bool, true, false}
 use mathlib.Core.Path.{_≡_, refl, sym, ap, ap₂, _∙_}
 use mathlib.Core.Logic.{_↔_}
@@ -15,14 +15,16 @@ use Rattle.octets.proofs.ChoiceLaws.{both-first, both-second, same-test, choose
 use Rattle.octets.proofs.SameLaws.{same-true, same-refl}
 use Rattle.actions.specs.declared.Checked.{Checked}
 use Rattle.actions.specs.declared.Checked.the-variants.{Fault, Value}
-use Rattle.actions.specs.Actions.{actionOf, isFull, writesLine}
+use Rattle.actions.specs.Actions.{actionOf, isFull}
 use Rattle.ledger.specs.declared.header.Caps.{Caps}
+use Rattle.ledger.specs.Layout.{u32}
 use Rattle.ledger.specs.Line.{line}
 use Rattle.submission.specs.Opening.{Limits}
-use Rattle.submission.specs.Submission.{swapOf, actionIn, lineDueIn, maskedTerms}
+use Rattle.submission.specs.Submission.{swapOf, actionIn, lineDue, lineDueIn, maskedTerms}
 use Rattle.submission.specs.History.{Call, messageOf, answerTo, ledgerAfter, hasAction, ofKind, publishes, Judgement, judgements}
 use Rattle.submission.specs.Demand3.{messageAt, verdictAt, AcceptedAt, maskedTermsAt, SameShown, Alike}
 use Rattle.submission.specs.Published.{published, lastIdentifier, lastMasked, publishedTerms, lineBy, publishedLine, publishedTape}
+use Rattle.submission.proofs.PublishedTape.{LedgerAgrees, kept-agreeing, publishes-due}
 
 -- ---- two messages that show the same
 
@@ -127,16 +129,25 @@ name-one : (u v m n : Bytes) → (m ≡ u) ↔ (n ≡ v) → sameBytes m u ≡ s
 name-one u v m n e =
     same-test _ _ (λ b. rw (e .0 (same-true m u b)) (same-refl v)) (λ b. rw (e .1 (same-true n v b)) (same-refl u))
 
--- whether a line is written goes by verdict and action
-same-publishes : (v w : ℕ) (m n : Bytes) → v ≡ w → (v ≡ 0 → SameShown m n) → both (eqb v 0) (hasAction writesLine m) ≡ both (eqb w 0) (hasAction writesLine n)
-same-publishes v w m n e s = rw (← e) (by (eqb v 0) refl)
+-- whether a line is due, with what was published before
+abbrev dueAfter : Caps → List Bytes → Bytes → Bool
+dueAfter caps es m = hasAction (λ a. lineDue a (publishedTerms caps es m) (lastMasked caps (swapOf m) es)) m
+
+same-due : (caps : Caps) (m n : Bytes) (es fs : List Bytes) → Partners caps m n → Same caps (swapOf m) (swapOf n) es fs → dueAfter caps es m ≡ dueAfter caps fs n
+same-due caps m n es fs t i =
+    ap (ofKind (λ a. lineDue a (publishedTerms caps es m) (lastMasked caps (swapOf m) es))) (same-actions caps m n (t .shown))
+    ∙ ap₂ (λ (x y : Bytes). hasAction (λ a. lineDue a x y) n) (same-terms caps m n es fs t i) (i .terms)
+
+-- a test that counts only where a verdict is 0
+same-at-0 : (v w : ℕ) (b c : Bool) → v ≡ w → (v ≡ 0 → b ≡ c) → both (eqb v 0) b ≡ both (eqb w 0) c
+same-at-0 v w b c e s = rw (← e) (by (eqb v 0) refl)
   where
-    by : (b : Bool) → eqb v 0 ≡ b → both b (hasAction writesLine m) ≡ both b (hasAction writesLine n)
-    by true g = ap (λ (x : Bytes). ofKind writesLine (actionOf x)) (s (eqb-true v 0 g) .0)
+    by : (t : Bool) → eqb v 0 ≡ t → both t b ≡ both t c
+    by true g = s (eqb-true v 0 g)
     by false g = refl
 
-module _ (caps : Caps) (limits : Limits) (c₁ c₂ : Call) (h₁ h₂ : List Call) (l₁ l₂ : Bytes) (es fs : List Bytes) (p : Prior caps es fs)
-    (q : Named (judgements limits l₁ (c₁ ∷ h₁)) (judgements limits l₂ (c₂ ∷ h₂)) es fs) (n : AllPartners caps (judgements limits l₁ (c₁ ∷ h₁)) (judgements limits l₂ (c₂ ∷ h₂))) where
+module _ (caps : Caps) (limits : Limits) (small : limits .largest < 256 ^ u32) (c₁ c₂ : Call) (h₁ h₂ : List Call) (l₁ l₂ : Bytes) (es fs : List Bytes) (p : Prior caps es fs)
+    (g₁ : LedgerAgrees caps l₁ es) (g₂ : LedgerAgrees caps l₂ fs) (q : Named (judgements limits l₁ (c₁ ∷ h₁)) (judgements limits l₂ (c₂ ∷ h₂)) es fs) (n : AllPartners caps (judgements limits l₁ (c₁ ∷ h₁)) (judgements limits l₂ (c₂ ∷ h₂))) where
   same-verdict : answerTo limits l₁ c₁ .verdict ≡ answerTo limits l₂ c₂ .verdict
   unfolding judgements
   same-verdict = n .verdicts 0 (omega arith)
@@ -144,10 +155,6 @@ module _ (caps : Caps) (limits : Limits) (c₁ c₂ : Call) (h₁ h₂ : List Ca
   partners : answerTo limits l₁ c₁ .verdict ≡ 0 → Partners caps (messageOf c₁) (messageOf c₂)
   unfolding judgements
   partners v = n .partners 0 (omega arith, v)
-
-  publish-alike : publishes limits l₁ c₁ ≡ publishes limits l₂ c₂
-  unfolding publishes lineDueIn
-  publish-alike = same-publishes _ _ (messageOf c₁) (messageOf c₂) same-verdict (λ v. partners v .shown)
 
   accepted-first : publishes limits l₁ c₁ ≡ true → answerTo limits l₁ c₁ .verdict ≡ 0
   unfolding publishes
@@ -161,6 +168,16 @@ module _ (caps : Caps) (limits : Limits) (c₁ c₂ : Call) (h₁ h₂ : List Ca
   unfolding judgements
   named-own v = q 0 (omega arith, v)
 
+  -- the earlier messages of the two swaps show the same
+  same-swaps : answerTo limits l₁ c₁ .verdict ≡ 0 → Same caps (swapOf (messageOf c₁)) (swapOf (messageOf c₂)) es fs
+  same-swaps v = same-earlier caps (swapOf (messageOf c₁)) (swapOf (messageOf c₂)) es fs p (named-own v)
+
+  publish-alike : publishes limits l₁ c₁ ≡ publishes limits l₂ c₂
+  publish-alike =
+      publishes-due limits small c₁ g₁
+      ∙ same-at-0 _ _ _ _ same-verdict (λ v. same-due caps (messageOf c₁) (messageOf c₂) es fs (partners v) (same-swaps v))
+      ∙ sym (publishes-due limits small c₂ g₂)
+
   named-more : answerTo limits l₁ c₁ .verdict ≡ 0 → Named (judgements limits (ledgerAfter limits l₁ c₁) h₁) (judgements limits (ledgerAfter limits l₂ c₂) h₂) (messageOf c₁ ∷ es) (messageOf c₂ ∷ fs)
   unfolding judgements
   named-more v i z =
@@ -171,7 +188,7 @@ module _ (caps : Caps) (limits : Limits) (c₁ c₂ : Call) (h₁ h₂ : List Ca
   partners-after = partners-rest caps _ _ _ _ n
 
   one-turn :
-      ((es′ fs′ : List Bytes) → Prior caps es′ fs′ → Named (judgements limits (ledgerAfter limits l₁ c₁) h₁) (judgements limits (ledgerAfter limits l₂ c₂) h₂) es′ fs′
+      ((es′ fs′ : List Bytes) → Prior caps es′ fs′ → LedgerAgrees caps (ledgerAfter limits l₁ c₁) es′ → LedgerAgrees caps (ledgerAfter limits l₂ c₂) fs′ → Named (judgements limits (ledgerAfter limits l₁ c₁) h₁) (judgements limits (ledgerAfter limits l₂ c₂) h₂) es′ fs′
       → publishedTape caps es′ (published limits (ledgerAfter limits l₁ c₁) h₁) ≡ publishedTape caps fs′ (published limits (ledgerAfter limits l₂ c₂) h₂))
       → (b : Bool) → publishes limits l₁ c₁ ≡ b → publishedTape caps es (published limits l₁ (c₁ ∷ h₁)) ≡ publishedTape caps fs (published limits l₂ (c₂ ∷ h₂))
   unfolding published publishedTape Prior
@@ -179,28 +196,27 @@ module _ (caps : Caps) (limits : Limits) (c₁ c₂ : Call) (h₁ h₂ : List Ca
       let v : answerTo limits l₁ c₁ .verdict ≡ 0 = accepted-first e in
       let e₂ : publishes limits l₂ c₂ ≡ true = sym publish-alike ∙ e in
       let t : Partners caps (messageOf c₁) (messageOf c₂) = partners v in
-      let own : naming (swapOf (messageOf c₁)) es ≡ naming (swapOf (messageOf c₂)) fs = named-own v in
       rw (e, e₂)
-      (ap₂ {C = Bytes} (λ (a b : Bytes). a ++ b) (same-line caps (messageOf c₁) (messageOf c₂) es fs t (same-earlier caps (swapOf (messageOf c₁)) (swapOf (messageOf c₂)) es fs p own))
-      (rest (messageOf c₁ ∷ es) (messageOf c₂ ∷ fs) (t, p) (named-more v)))
+      (ap₂ {C = Bytes} (λ (a b : Bytes). a ++ b) (same-line caps (messageOf c₁) (messageOf c₂) es fs t (same-swaps v))
+      (rest (messageOf c₁ ∷ es) (messageOf c₂ ∷ fs) (t, p) (rw e at (kept-agreeing limits small c₁ g₁)) (rw e₂ at (kept-agreeing limits small c₂ g₂)) (named-more v)))
   one-turn rest false e =
       let e₂ : publishes limits l₂ c₂ ≡ false = sym publish-alike ∙ e in
-      rw (e, e₂) (rest es fs p named-rest)
+      rw (e, e₂) (rest es fs p (rw e at (kept-agreeing limits small c₁ g₁)) (rw e₂ at (kept-agreeing limits small c₂ g₂)) named-rest)
 
-both-known : (caps : Caps) (limits : Limits) (h₁ h₂ : List Call) (l₁ l₂ : Bytes) (es fs : List Bytes) → Prior caps es fs
-    → Named (judgements limits l₁ h₁) (judgements limits l₂ h₂) es fs → AllPartners caps (judgements limits l₁ h₁) (judgements limits l₂ h₂)
+both-known : (caps : Caps) (limits : Limits) → limits .largest < 256 ^ u32 → (h₁ h₂ : List Call) (l₁ l₂ : Bytes) (es fs : List Bytes) → Prior caps es fs
+    → LedgerAgrees caps l₁ es → LedgerAgrees caps l₂ fs → Named (judgements limits l₁ h₁) (judgements limits l₂ h₂) es fs → AllPartners caps (judgements limits l₁ h₁) (judgements limits l₂ h₂)
     → publishedTape caps es (published limits l₁ h₁) ≡ publishedTape caps fs (published limits l₂ h₂)
 unfolding judgements published publishedTape
-both-known caps limits [] [] l₁ l₂ es fs p q n = refl
-both-known caps limits [] (c₂ ∷ h₂) l₁ l₂ es fs p q n = absurd (omega (arith, n .lengths))
-both-known caps limits (c₁ ∷ h₁) [] l₁ l₂ es fs p q n = absurd (omega (arith, n .lengths))
-both-known caps limits (c₁ ∷ h₁) (c₂ ∷ h₂) l₁ l₂ es fs p q n =
-    one-turn caps limits c₁ c₂ h₁ h₂ l₁ l₂ es fs p q n
-    (λ es′ fs′ p′ q′. both-known caps limits h₁ h₂ (ledgerAfter limits l₁ c₁) (ledgerAfter limits l₂ c₂) es′ fs′ p′ q′ (partners-after caps limits c₁ c₂ h₁ h₂ l₁ l₂ es fs p q n))
+both-known caps limits small [] [] l₁ l₂ es fs p g₁ g₂ q n = refl
+both-known caps limits small [] (c₂ ∷ h₂) l₁ l₂ es fs p g₁ g₂ q n = absurd (omega (arith, n .lengths))
+both-known caps limits small (c₁ ∷ h₁) [] l₁ l₂ es fs p g₁ g₂ q n = absurd (omega (arith, n .lengths))
+both-known caps limits small (c₁ ∷ h₁) (c₂ ∷ h₂) l₁ l₂ es fs p g₁ g₂ q n =
+    one-turn caps limits small c₁ c₂ h₁ h₂ l₁ l₂ es fs p g₁ g₂ q n
+    (λ es′ fs′ p′ k₁ k₂ q′. both-known caps limits small h₁ h₂ (ledgerAfter limits l₁ c₁) (ledgerAfter limits l₂ c₂) es′ fs′ p′ k₁ k₂ q′ (partners-after caps limits small c₁ c₂ h₁ h₂ l₁ l₂ es fs p g₁ g₂ q n))
     (publishes limits l₁ c₁) refl
 
 -- two histories whose premises hold tell the same
-pub same-published : (caps : Caps) (limits : Limits) (h₁ h₂ : List Call) (l₁ l₂ : Bytes) → Alike caps (judgements limits l₁ h₁) (judgements limits l₂ h₂)
+pub same-published : (caps : Caps) (limits : Limits) → limits .largest < 256 ^ u32 → (h₁ h₂ : List Call) (l₁ l₂ : Bytes) → LedgerAgrees caps l₁ [] → LedgerAgrees caps l₂ [] → Alike caps (judgements limits l₁ h₁) (judgements limits l₂ h₂)
     → publishedTape caps [] (published limits l₁ h₁) ≡ publishedTape caps [] (published limits l₂ h₂)
 unfolding Prior
-same-published caps limits h₁ h₂ l₁ l₂ a = both-known caps limits h₁ h₂ l₁ l₂ [] [] tt (λ i z. refl) (all-partners caps _ _ a)
+same-published caps limits small h₁ h₂ l₁ l₂ g₁ g₂ a = both-known caps limits small h₁ h₂ l₁ l₂ [] [] tt g₁ g₂ (λ i z. refl) (all-partners caps _ _ a)

@@ -23,11 +23,12 @@ use Rattle.ledger.specs.Rows.{rowAt, identifierOf, storedTerms, isKnown, swapRo
 use Rattle.ledger.specs.Line.{line}
 use Rattle.ledger.proofs.RowFields.{after-identifier, after-terms}
 use Rattle.submission.specs.Opening.{Limits}
-use Rattle.submission.specs.Submission.{swapOf, actionIn, lineDueIn, maskedTerms, termsFor, placeFor, rowFor, ledgerFor, lineFor}
-use Rattle.submission.specs.History.{Call, submit, messageOf, ledgerAfter, hasAction, publishes, lineOf, tape}
+use Rattle.submission.specs.Submission.{swapOf, actionIn, lineDue, lineDueIn, maskedTerms, termsFor, placeFor, rowFor, ledgerFor, lineFor}
+use Rattle.submission.specs.History.{Call, submit, messageOf, answerTo, ledgerAfter, hasAction, publishes, lineOf, tape}
 use Rattle.submission.specs.Published.{published, lastIdentifier, lastMasked, publishedTerms, publishedLine, publishedTape}
+use Rattle.submission.proofs.LineDueLaws.{due-same, old-unless-due}
 use Rattle.submission.proofs.Acceptance.{HasPlace, has-place, tape-room}
-use Rattle.submission.proofs.Lookup.{old-unless-due, row-whole, length-shown, old-place, next-raised, caps-kept, own-row, other-kept}
+use Rattle.submission.proofs.Lookup.{row-whole, length-shown, old-place, next-raised, caps-kept, own-row, other-kept}
 use Rattle.submission.proofs.Outcome.{by-outcome, accepted-line}
 
 -- a ledger holds what the published messages say, the latest first: the next identifier is one more than their number, and each row that is found has the
@@ -51,6 +52,11 @@ module _ {largest : ℕ} (small : largest < 256 ^ u32) {caps : Caps} {l m : Byte
       by : (b : Bool) → isFull a ≡ b → choose b (maskedTerms caps m) (storedTerms (swapRow l (swapOf m))) ≡ choose b (maskedTerms caps m) (lastMasked caps (swapOf m) earlier)
       by true e = refl
       by false e = h .terms (swapOf m) (f .uti) (f .known (old-unless-full a e))
+
+  -- whether a line is due goes by the published messages too
+  due-published : lineDueIn a l m ≡ lineDue a (publishedTerms caps earlier m) (lastMasked caps (swapOf m) earlier)
+  unfolding lineDueIn
+  due-published = rw terms-published (due-same a (publishedTerms caps earlier m) _ _ (λ old. h .terms (swapOf m) (f .uti) (f .known old)))
 
   line-published : lineFor a l m ≡ publishedLine caps earlier m
   unfolding lineFor publishedLine swapIdentifier
@@ -131,6 +137,16 @@ module _ (limits : Limits) (small : limits .largest < 256 ^ u32) {caps : Caps} w
       by-outcome limits (record { ledger = l; buffers = b }) m (λ s. LedgerAgrees caps (s .lent .ledger) (choose (both (eqb (s .verdict) 0) (hasAction (λ a. lineDueIn a l m) m)) (m ∷ earlier) earlier))
       (λ c. let d = c .admitted in rw (d .reads) (after small h (d .reads) (has-place d) (lineDueIn (d .action) l m) refl))
       (λ v z. rw z h)
+
+  -- it writes a line where the published messages make one due
+  pub publishes-due : {l : Bytes} (c : Call) {earlier : List Bytes} → LedgerAgrees caps l earlier
+      → publishes limits l c ≡ both (eqb (answerTo limits l c .verdict) 0) (hasAction (λ a. lineDue a (publishedTerms caps earlier (messageOf c)) (lastMasked caps (swapOf (messageOf c)) earlier)) (messageOf c))
+  unfolding publishes
+  publishes-due {l} (submit m b) {earlier} h =
+      by-outcome limits (record { ledger = l; buffers = b }) m
+      (λ s. both (eqb (s .verdict) 0) (hasAction (λ a. lineDueIn a l m) m) ≡ both (eqb (s .verdict) 0) (hasAction (λ a. lineDue a (publishedTerms caps earlier m) (lastMasked caps (swapOf m) earlier)) m))
+      (λ c. let d = c .admitted in rw (d .reads) (due-published small h (d .reads) (has-place d)))
+      (λ v z. rw z)
 
   -- what it adds to the tape is the line that the published messages tell
   line-is-published : {l : Bytes} (c : Call) {earlier : List Bytes} → LedgerAgrees caps l earlier → lineOf limits l c ≡ choose (publishes limits l c) (publishedLine caps earlier (messageOf c)) []

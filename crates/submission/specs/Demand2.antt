@@ -11,13 +11,14 @@ use Rattle.octets.specs.Part.{part}
 use Rattle.octets.specs.Fields.{Placed}
 use Rattle.message.specs.Values.{value}
 use Rattle.actions.specs.declared.Action.{Action}
+use Rattle.actions.specs.declared.Action.the-variants.{Modi, Prto}
 use Rattle.actions.specs.declared.Checked.the-variants.{Value}
 use Rattle.actions.specs.Actions.{isFull, isNew, repeatsTime, nextStatus}
 use Rattle.actions.specs.Statuses.{live, ported, noStep}
 use Rattle.elements.specs.Codes.{uti, executionTimestamp}
 use Rattle.elements.specs.Forms.{hasForm}
 use Rattle.rules.specs.Verdicts.{formBroken}
-use Rattle.rules.specs.Findings.{ruleNumber, FirstBroken}
+use Rattle.rules.specs.Findings.{ruleNumber, AllPassed, FirstBroken}
 use Rattle.rules.specs.Rules.{verdict}
 use Rattle.ledger.specs.declared.header.Caps.{Caps}
 use Rattle.ledger.specs.Layout.{u32, u64, rowsAt, nextAt, statusAt, lengthAt, identifierAt, tailAt, tailSize, headerSize, rowSize, rowStart, shortestLedger, lineSize, identifierLimit}
@@ -28,7 +29,7 @@ use Rattle.submission.specs.Verdicts.{ledgerShort, capWrong, ledgerWrong
 use Rattle.submission.specs.Opening.{Limits, opened}
 use Rattle.submission.specs.Lent.{Lent}
 use Rattle.submission.specs.Status.{asked}
-use Rattle.submission.specs.Submission.{Submitted, submitted, swapOf, actionIn, lineDueIn, hasWrongRow, rulesOn, submissionRules, maskedTerms, termsFor, placeFor}
+use Rattle.submission.specs.Submission.{Submitted, submitted, swapOf, actionIn, lineDueIn, hasWrongRow, rulesOn, submissionRules, admittingRules, maskedTerms, termsFor, placeFor}
 
 -- ---- the verdict of a submission
 
@@ -65,6 +66,30 @@ pub record RulesAccept (limits : Limits) (lent : Lent) (m : Bytes) : Type 0 wher
 
 abbrev pub Accepted-exactly : Type 0
 Accepted-exactly = (limits : Limits) (lent : Lent) (m : Bytes) → (submitted limits lent m .verdict ≡ 0) ↔ RulesAccept limits lent m
+
+-- ---- whether a line is due
+
+-- PRTO has no line, MODI none where its masked terms are the stored ones, any other message always one
+pub record LineDue (a : Action) (l m : Bytes) : Type 0 where
+  pub porting : a ≡ Prto → lineDueIn a l m ≡ false
+  pub modification : a ≡ Modi → (lineDueIn a l m ≡ false) ↔ (maskedTerms (capsIn l) m ≡ storedTerms (swapRow l (swapOf m)))
+  pub others : (a ≡ Prto → ⊥) → (a ≡ Modi → ⊥) → lineDueIn a l m ≡ true
+
+abbrev pub Line-due-exactly : Type 0
+Line-due-exactly = (a : Action) (l m : Bytes) → LineDue a l m
+
+-- a MODI that every rule but 18 admits and whose masked terms are the stored ones is accepted, takes no identifier, and nothing moves
+abbrev pub Quiet-modification-under : Limits → Type 0
+Quiet-modification-under limits =
+    (lent : Lent) (m : Bytes)
+    → actionIn m ≡ Value Modi
+    → AllPassed (admittingRules limits (actionIn m) lent m)
+    → maskedTerms (capsIn (lent .ledger)) m ≡ storedTerms (swapRow (lent .ledger) (swapOf m))
+    → submitted limits lent m ≡ record { verdict = 0; element = 0; identifier = 0; lent = lent }
+
+-- under any limits whose largest capacity the header's field can hold
+abbrev pub Quiet-modification : Type 0
+Quiet-modification = (limits : Limits) → limits .largest < 256 ^ u32 → Quiet-modification-under limits
 
 -- ---- what an accepted message writes
 

@@ -13,11 +13,11 @@ use Rattle.message.specs.Values.{value}
 use Rattle.actions.specs.declared.Action.{Action}
 use Rattle.actions.specs.declared.Checked.{Checked}
 use Rattle.actions.specs.declared.Checked.the-variants.{Fault, Value}
-use Rattle.actions.specs.Actions.{isFull, isNew, writesLine, repeatsTime, nextStatus}
+use Rattle.actions.specs.Actions.{isFull, isNew, writesLine, needsChange, repeatsTime, nextStatus}
 use Rattle.actions.specs.Statuses.{live, ported, noStep}
 use Rattle.elements.specs.Codes.{uti, executionTimestamp, assetClass}
 use Rattle.terms.specs.Terms.{termsOf}
-use Rattle.rules.specs.Findings.{Rule, test, firstBroken}
+use Rattle.rules.specs.Findings.{Rule, test, firstBroken, beforeRule}
 use Rattle.rules.specs.Rules.{rulesFor}
 pub use Rattle.rules.specs.Rules.{actionIn}
 use Rattle.ledger.specs.declared.header.Caps.{Caps}
@@ -35,11 +35,29 @@ use Rattle.submission.specs.Lent.{Lent, lentOf}
 abbrev pub swapOf : Bytes → Bytes
 swapOf m = value uti m
 
+-- ---- what a line would show of the swap
+
+-- the cap that applies to a full message: that of its asset class
+unfoldable pub capOn : Caps → Bytes → ℕ
+capOn caps m = capFor caps (value assetClass m)
+
+-- masked terms are what a full message's elements and the caps put into a line from the execution time up to the newline
+unfoldable pub maskedTerms : Caps → Bytes → Bytes
+maskedTerms caps m = termsOf (capOn caps m) m
+
+-- TERM and EROR show the stored terms
+unfoldable pub termsFor : Action → Bytes → Bytes → Bytes
+termsFor a l m = choose (isFull a) (maskedTerms (capsIn l) m) (storedTerms (swapRow l (swapOf m)))
+
 -- ---- whether a line is due
 
--- by the action
+-- by the action; one that needs a change has a line where the terms that it would show are not the stored ones
+unfoldable pub lineDue : Action → Bytes → Bytes → Bool
+lineDue a terms stored = choose (needsChange a) (not (sameBytes terms stored)) (writesLine a)
+
+-- with what a ledger has of the swap that the message names
 unfoldable pub lineDueIn : Action → Bytes → Bytes → Bool
-lineDueIn a l m = writesLine a
+lineDueIn a l m = lineDue a (termsFor a l m) (storedTerms (swapRow l (swapOf m)))
 
 -- ---- rules 14 to 17, by what is known of the swap and the numbers of the header
 
@@ -102,23 +120,15 @@ submissionRules limits action lent m =
 abbrev pub rulesOn : Limits → Lent → Bytes → List Rule
 rulesOn limits lent m = submissionRules limits (actionIn m) lent m
 
+-- every rule but 18, which stands behind them
+abbrev pub admittingRules : Limits → Checked → Lent → Bytes → List Rule
+admittingRules limits action lent m = beforeRule identifiersSpent (submissionRules limits action lent m)
+
 -- verdict and element
 unfoldable pub verdictOn : Limits → Lent → Bytes → ℕ × ℕ
 verdictOn limits lent m = firstBroken (rulesOn limits lent m)
 
 -- ---- what an accepted message writes
-
--- the cap that applies to a full message: that of its asset class
-unfoldable pub capOn : Caps → Bytes → ℕ
-capOn caps m = capFor caps (value assetClass m)
-
--- masked terms are what a full message's elements and the caps put into a line from the execution time up to the newline
-unfoldable pub maskedTerms : Caps → Bytes → Bytes
-maskedTerms caps m = termsOf (capOn caps m) m
-
--- TERM and EROR show the stored terms
-unfoldable pub termsFor : Action → Bytes → Bytes → Bytes
-termsFor a l m = choose (isFull a) (maskedTerms (capsIn l) m) (storedTerms (swapRow l (swapOf m)))
 
 -- NEWT writes the next row, any other action its swap's
 unfoldable pub placeFor : Action → Bytes → Bytes → ℕ

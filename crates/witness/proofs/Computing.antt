@@ -34,7 +34,7 @@ use Rattle.ledger.specs.Rows.{rowAt, statusOf, identifierOf, storedTerms, store
 use Rattle.submission.specs.Demand3.{lastTerms, maskedTermsAt}
 use Rattle.submission.specs.History.{publishes, lineOf, tape, judgements}
 use Rattle.submission.specs.Opening.{openingRules, openingVerdict, opened}
-use Rattle.submission.specs.Submission.{lineDueIn, rowRight, hasWrongRow, isNotAdmitted, hasOtherTime, findsFull, swapRules, findsSpent, submissionRules, verdictOn, capOn, maskedTerms, termsFor, placeFor, rowFor, ledgerFor, lineFor, submitted}
+use Rattle.submission.specs.Submission.{lineDue, lineDueIn, rowRight, hasWrongRow, isNotAdmitted, hasOtherTime, findsFull, swapRules, findsSpent, submissionRules, verdictOn, capOn, maskedTerms, termsFor, placeFor, rowFor, ledgerFor, lineFor, submitted}
 use Rattle.witness.specs.Encoding.{entries, values, encoded}
 use Rattle.witness.specs.Messages.{packageSwap, unclearedSwap, shortMessage}
 use Rattle.witness.specs.Histories.{left, right}
@@ -66,7 +66,7 @@ unfolding rowsInUse firstRow nextIdentifier capsIn sizeOfRows capacityIn capFor 
 storing = tt
 
 submitting : Unit {0}
-unfolding lastTerms maskedTermsAt publishes lineOf tape judgements openingRules openingVerdict opened lineDueIn rowRight hasWrongRow isNotAdmitted hasOtherTime findsFull swapRules findsSpent submissionRules verdictOn capOn maskedTerms termsFor placeFor rowFor ledgerFor lineFor submitted
+unfolding lastTerms maskedTermsAt publishes lineOf tape judgements openingRules openingVerdict opened lineDue lineDueIn rowRight hasWrongRow isNotAdmitted hasOtherTime findsFull swapRules findsSpent submissionRules verdictOn capOn maskedTerms termsFor placeFor rowFor ledgerFor lineFor submitted
 submitting = tt
 
 history : Unit {0}

@@ -37,12 +37,13 @@ judgedRight = judgements limits (start limits caps rightLedger) right
 abbrev pub actionsJudged : List Judgement → List (Bytes × ℕ)
 actionsJudged js = map (λ j. (value actionType (j .message), j .verdict)) js
 
--- each of the seven actions is accepted; the third message, with this action, is refused
+-- each of the seven actions is accepted; the fourth message, with this action, is refused
 abbrev pub allActions : String → List (Bytes × ℕ)
-allActions third =
+allActions fourth =
     (text "NEWT", 0)
     ∷ (text "MODI", 0)
-    ∷ (text third, notAdmitted)
+    ∷ (text "MODI", 0)
+    ∷ (text fourth, notAdmitted)
     ∷ (text "NEWT", 0)
     ∷ (text "CORR", 0)
     ∷ (text "TERM", 0)

@@ -17,7 +17,7 @@ hiddenCodes = uti ∷ reportingTimestamp ∷ settlementDate ∷ allocation ∷ p
 
 -- the places of the accepted full messages
 abbrev pub fullPlaces : List ℕ
-fullPlaces = 0 ∷ 1 ∷ 3 ∷ 4 ∷ 7 ∷ []
+fullPlaces = 0 ∷ 1 ∷ 2 ∷ 4 ∷ 5 ∷ 8 ∷ []
 
 -- a full message of a history
 abbrev pub fullMessage : List Call → ℕ → Bytes

@@ -7,7 +7,7 @@ use Rattle.ledger.specs.declared.header.Caps.{Caps}
 use Rattle.ledger.specs.Layout.{lineSize, rowStart}
 use Rattle.submission.specs.Opening.{Limits, documentLimits}
 use Rattle.submission.specs.History.{Call, submit}
-use Rattle.witness.specs.Messages.{Hidden, newPackageSwap, extendedPackageSwap, revivedPackageSwap, newUnclearedSwap, correctedUnclearedSwap, termination, inError, porting}
+use Rattle.witness.specs.Messages.{Hidden, newPackageSwap, extendedPackageSwap, repeatedPackageSwap, revivedPackageSwap, newUnclearedSwap, correctedUnclearedSwap, termination, inError, porting}
 
 abbrev pub limits : Limits
 limits = documentLimits
@@ -32,6 +32,19 @@ northRates =
       counterparty2 = "213800NORTHFUND00170";
     }
 
+-- what the quiet modification tells of the same swap
+abbrev pub northNovated : Hidden
+northNovated =
+    record {
+      uti = "529900NORTHBANK00170IRS20260302000017";
+      settlement = "2033-04-01";
+      allocation = "PREA";
+      packageName = "Alpha9";
+      quote = "-101.2500";
+      counterparty1 = "529900NORTHBANK00170";
+      counterparty2 = "549300NORTHGRAIN0150";
+    }
+
 abbrev pub northGrain : Hidden
 northGrain =
     record {
@@ -48,11 +61,12 @@ northGrain =
 abbrev pub leftLedger : Bytes
 leftLedger = replicate (rowStart 2) 0
 
--- the third message is refused: the swap is known
+-- the third message is a quiet modification; the fourth is refused: the swap is known
 unfoldable pub left : List Call
 left =
     submit (newPackageSwap northRates "2026-03-02T14:30:05Z" "104999999") (record { tape = replicate lineSize 0 })
     ∷ submit (extendedPackageSwap northRates "2026-03-03T09:00:01Z" "250400000") (record { tape = replicate lineSize 1 })
+    ∷ submit (repeatedPackageSwap northNovated "2026-03-03T09:25:00Z" "99999999999.5") (record { tape = replicate lineSize 2 })
     ∷ submit (newPackageSwap northRates "2026-03-03T09:30:00Z" "104999999") (record { tape = replicate (lineSize + 1) 0 })
     ∷ submit (newUnclearedSwap northGrain "2026-03-03T10:16:00Z" "997.5") (record { tape = replicate (lineSize + 4) 32 })
     ∷ submit (correctedUnclearedSwap northGrain "2026-03-03T16:20:30Z" "9950") (record { tape = replicate (lineSize + 2) 48 })
@@ -76,6 +90,18 @@ southRates =
       counterparty2 = "969500SOUTHBANK00122";
     }
 
+abbrev pub southNovated : Hidden
+southNovated =
+    record {
+      uti = "969500SOUTHBANK00122RATES000000000000000000000000042";
+      settlement = "2033-03-04";
+      allocation = "UNAL";
+      packageName = "theta";
+      quote = "-00101.25";
+      counterparty1 = "724500SOUTHGRAIN0154";
+      counterparty2 = "969500SOUTHBANK00122";
+    }
+
 abbrev pub southGrain : Hidden
 southGrain =
     record {
@@ -92,11 +118,12 @@ southGrain =
 abbrev pub rightLedger : Bytes
 rightLedger = replicate (rowStart 3 + 56) 255
 
--- the third message is refused: the swap is not known yet
+-- the third message is a quiet modification; the fourth is refused: the swap is not known yet
 unfoldable pub right : List Call
 right =
     submit (newPackageSwap southRates "2026-03-02T23:59:59Z" "99500000.00001") (record { tape = replicate (lineSize + 54) 255 })
     ∷ submit (extendedPackageSwap southRates "2026-03-03T12:00:00Z" "7000000000000000000") (record { tape = replicate (lineSize + 3) 7 })
+    ∷ submit (repeatedPackageSwap southNovated "2026-03-03T12:30:00Z" "250000001") (record { tape = replicate (lineSize + 7) 4 })
     ∷ submit (termination southGrain "2026-03-03T17:45:10Z") (record { tape = replicate (lineSize + 854) 43 })
     ∷ submit (newUnclearedSwap southGrain "2026-03-03T18:00:00Z" "1049.99999") (record { tape = replicate lineSize 10 })
     ∷ submit (correctedUnclearedSwap southGrain "2026-03-03T18:05:00Z" "10499.99999") (record { tape = replicate (lineSize + 1) 0 })

@@ -77,6 +77,10 @@ newPackageSwap h = packageSwap (withEvent "NEWT" "TRAD" "2026-03-02T14:30:00Z") 
 abbrev pub extendedPackageSwap : Hidden → String → String → Bytes
 extendedPackageSwap h = packageSwap (withEvent "MODI" "TRAD" "2026-03-03T09:00:00Z") "2033-03-04" (byPrice h) [] h
 
+-- it is modified again, and shows what it showed
+abbrev pub repeatedPackageSwap : Hidden → String → String → Bytes
+repeatedPackageSwap h = packageSwap (withEvent "MODI" "NOVA" "2026-03-03T09:20:00Z") "2033-03-04" (byPrice h) [] h
+
 -- it is revived, with its first expiration and quoted by a spread
 abbrev pub revivedPackageSwap : Hidden → String → String → Bytes
 revivedPackageSwap h = packageSwap (withoutEvent "REVI" "2026-03-05T11:00:00Z") "2031-03-04" [] (bySpread h) h

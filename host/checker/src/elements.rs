@@ -167,9 +167,4 @@ impl Action {
             Action::Newt | Action::Modi | Action::Corr | Action::Revi
         )
     }
-
-    /// Clause 7.6.
-    pub fn writes_line(self) -> bool {
-        self != Action::Prto
-    }
 }

@@ -4,10 +4,9 @@
 use crate::elements::{Action, ACTION_TYPE, EVENT_TIMESTAMP, EVENT_TYPE, UTI};
 use crate::forms::is_uti;
 use crate::ledger::{
-    add_row, change_row, end_row, find, port_row, raise_next_identifier, row_at, write_header,
-    Header,
+    add_row, change_row, end_row, find, port_row, raise_next_identifier, write_header, Header,
 };
-use crate::line::{masked_terms, write_line, Lead};
+use crate::line::{is_line_due, masked_terms, write_line, Lead};
 use crate::message::Values;
 use crate::rules::{
     refusal_at, rule_10_not_a_pair, rule_11_conditional_missing, rule_12_price_too_long,
@@ -17,6 +16,7 @@ use crate::rules::{
     rule_6_action_wrong, rule_7_element_missing, rule_8_element_not_taken, rule_9_form_broken,
     Answer, Judged,
 };
+use crate::sizes::TERMS;
 
 /// Opens a ledger over a lent buffer. The caps are in the order CR, IR, FX,
 /// EQ, CO. Answers the verdict.
@@ -68,6 +68,9 @@ struct Accepted<'a> {
     /// Place and last identifier of the swap's row; None for NEWT.
     row: Option<(usize, u64)>,
     new_status: u8,
+    /// The masked terms: its own where it is full, else the stored ones (7.5).
+    terms: [u8; TERMS],
+    line_due: bool,
 }
 
 /// Rules 3 to 19, in checking order. Nothing is written.
@@ -89,14 +92,21 @@ fn judge<'a>(ledger: &[u8], tape: &[u8], message: &'a [u8]) -> Judged<Accepted<'
     rule_14_row_wrong(row, &header)?;
     let new_status = rule_15_not_admitted(row, action)?;
     rule_16_other_time(row, &values, action)?;
+    let terms = match row {
+        Some(row) if !action.is_full() => row.terms(),
+        _ => masked_terms(&values, &header.caps),
+    };
+    let line_due = is_line_due(action, row, &terms);
     rule_17_ledger_full(&header, action)?;
-    rule_18_identifiers_spent(&header, action)?;
+    rule_18_identifiers_spent(&header, line_due)?;
     Ok(Accepted {
         header,
         values,
         action,
         row: found.map(|(place, row)| (place, row.identifier())),
         new_status,
+        terms,
+        line_due,
     })
 }
 
@@ -109,40 +119,39 @@ fn carry_out(ledger: &mut [u8], tape: &mut [u8], accepted: &Accepted) -> Answer 
         action,
         row,
         new_status,
+        terms,
+        line_due,
     } = accepted;
+    if !line_due {
+        // PRTO writes the status; a MODI without a line changes no byte (8.6).
+        if let (Action::Prto, Some((place, _))) = (action, *row) {
+            port_row(ledger, place, *new_status);
+        }
+        return Answer::default();
+    }
+    let identifier = header.next_identifier;
+    match *row {
+        // Only NEWT passes rule 15 without a row.
+        None => {
+            let uti = values.present(UTI);
+            add_row(ledger, header, *new_status, uti, identifier, terms);
+        }
+        Some((place, _)) if action.is_full() => {
+            change_row(ledger, place, *new_status, identifier, terms);
+        }
+        Some((place, _)) => end_row(ledger, place, *new_status, identifier),
+    }
     let lead = Lead {
-        identifier: header.next_identifier,
+        identifier,
         previous: row.map(|(_, identifier)| identifier),
         action: values.present(ACTION_TYPE),
         event: values.get(EVENT_TYPE),
         event_time: values.present(EVENT_TIMESTAMP),
     };
-    match (action, *row) {
-        (Action::Prto, Some((place, _))) => {
-            port_row(ledger, place, *new_status);
-            return Answer::default();
-        }
-        (Action::Term | Action::Eror, Some((place, _))) => {
-            end_row(ledger, place, *new_status, lead.identifier);
-            // The stored terms are shown (7.5).
-            write_line(tape, &lead, row_at(ledger, place).terms());
-        }
-        (_, Some((place, _))) => {
-            let terms = masked_terms(values, &header.caps);
-            change_row(ledger, place, *new_status, lead.identifier, &terms);
-            write_line(tape, &lead, &terms);
-        }
-        (_, None) => {
-            // Only NEWT passes rule 15 without a row.
-            let terms = masked_terms(values, &header.caps);
-            let uti = values.present(UTI);
-            add_row(ledger, header, *new_status, uti, lead.identifier, &terms);
-            write_line(tape, &lead, &terms);
-        }
-    }
+    write_line(tape, &lead, terms);
     raise_next_identifier(ledger, header);
     Answer {
-        identifier: lead.identifier,
+        identifier,
         ..Answer::default()
     }
 }

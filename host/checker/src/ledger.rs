@@ -88,14 +88,16 @@ impl<'a> Row<'a> {
         u64_at(self.bytes, row::IDENTIFIER)
     }
 
-    /// The masked terms.
-    pub fn terms(self) -> &'a [u8] {
-        &self.bytes[row::TERMS..][..TERMS]
+    /// The masked terms, whatever they hold.
+    pub fn terms(self) -> [u8; TERMS] {
+        let mut terms = [0; TERMS];
+        terms.copy_from_slice(&self.bytes[row::TERMS..][..TERMS]);
+        terms
     }
 
     /// The execution time is the first of the masked terms.
     pub fn execution_time(self) -> &'a [u8] {
-        &self.terms()[..TIME]
+        &self.bytes[row::TERMS..][..TIME]
     }
 
     /// Length and so many bytes are equal (8.4); the UTI has its form.
@@ -117,12 +119,6 @@ pub fn find<'a>(ledger: &'a [u8], header: &Header, uti: &[u8]) -> Option<(usize,
 }
 
 /// A row the ledger has.
-pub fn row_at(ledger: &[u8], place: usize) -> Row<'_> {
-    Row {
-        bytes: &ledger[sizes::ledger_size(place)..][..row::SIZE],
-    }
-}
-
 fn row_mut(ledger: &mut [u8], place: usize) -> &mut [u8] {
     &mut ledger[sizes::ledger_size(place)..][..row::SIZE]
 }
@@ -147,7 +143,8 @@ pub fn add_row(
     put(ledger, header::ROWS, &(header.rows + 1).to_le_bytes());
 }
 
-/// A full action other than NEWT writes status, terms and identifier.
+/// A full action other than NEWT writes status, terms and identifier, where a
+/// line is due.
 pub fn change_row(
     ledger: &mut [u8],
     place: usize,

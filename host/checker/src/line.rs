@@ -2,12 +2,13 @@
 
 use crate::amounts::masked_amount;
 use crate::elements::{
-    is_due, is_not_cleared, quoted, ASSET_CLASS, BLOCK_ELECTION, CLEARED, EFFECTIVE_DATE,
+    is_due, is_not_cleared, quoted, Action, ASSET_CLASS, BLOCK_ELECTION, CLEARED, EFFECTIVE_DATE,
     EXECUTION_TIMESTAMP, EXPIRATION_DATE, LARGE_NOTIONAL_ELECTION, NON_STANDARDIZED_TERM,
     NOTIONAL_AMOUNT, NOTIONAL_CURRENCY, PACKAGE_INDICATOR, PACKAGE_PRICE, PACKAGE_SPREAD,
     PRICE_CURRENCY, PRICE_NOTATION, SETTLEMENT_LOCATION, SPREAD_CURRENCY, SPREAD_NOTATION,
 };
 use crate::forms::{asset_class_place, is_true};
+use crate::ledger::Row;
 use crate::message::Values;
 use crate::price::shown;
 use crate::sizes::{self, line, TERMS};
@@ -62,6 +63,16 @@ pub fn masked_terms(values: &Values, caps: &[u64; 5]) -> [u8; TERMS] {
     terms
 }
 
+/// Is a line due (7.6)? Not for PRTO, and not for a MODI whose masked terms
+/// equal the stored ones of its swap, byte for byte.
+pub fn is_line_due(action: Action, row: Option<Row>, terms: &[u8; TERMS]) -> bool {
+    match action {
+        Action::Prto => false,
+        Action::Modi => row.map(Row::terms) != Some(*terms),
+        _ => true,
+    }
+}
+
 /// What leads a line, before the masked terms.
 pub struct Lead<'a> {
     pub identifier: u64,
@@ -74,7 +85,7 @@ pub struct Lead<'a> {
 
 /// Writes a line to the front of the tape buffer (7.7), which is long enough
 /// (rule 4).
-pub fn write_line(tape: &mut [u8], lead: &Lead, terms: &[u8]) {
+pub fn write_line(tape: &mut [u8], lead: &Lead, terms: &[u8; TERMS]) {
     let line = &mut tape[..line::SIZE];
     line.fill(b' ');
     let mut put = |at: usize, part: &[u8]| line[at..at + part.len()].copy_from_slice(part);

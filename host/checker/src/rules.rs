@@ -206,7 +206,6 @@ pub fn rule_17_ledger_full(header: &Header, action: Action) -> Judged<()> {
 }
 
 /// 18. A line is due and the next identifier is 1,000,000,000,000.
-pub fn rule_18_identifiers_spent(header: &Header, action: Action) -> Judged<()> {
-    let fault = action.writes_line() && header.next_identifier == IDENTIFIER_LIMIT;
-    refuse_if(fault, 18)
+pub fn rule_18_identifiers_spent(header: &Header, line_due: bool) -> Judged<()> {
+    refuse_if(line_due && header.next_identifier == IDENTIFIER_LIMIT, 18)
 }

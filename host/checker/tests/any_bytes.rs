@@ -1,7 +1,7 @@
 //! Any bytes get an answer, and a refusal changes no byte.
 
 mod common;
-use checker::sizes::{header, line, SHORTEST_LEDGER};
+use checker::sizes::{header, line, row, SHORTEST_LEDGER};
 use checker::*;
 use common::*;
 
@@ -56,12 +56,31 @@ fn some_messages() -> Vec<Elements> {
         with_spread(modi(), "25", "4"),
         with_spread(with_package(modi(), "0.0250", "3"), "0.0250", "3"),
         modi(),
+        modi_as_newt(),
         full("CORR", None),
         full("REVI", None),
         term(),
         short("EROR", None),
         prto(),
     ]
+}
+
+/// Is a line due for a message that is accepted? Not for PRTO, nor for a MODI
+/// that would leave the stored terms alone if it were a CORR. The first row is
+/// the swap's.
+fn is_line_due(before: &Book, message: &[u8]) -> bool {
+    let terms = |book: &Book| book.row(0)[row::TERMS..row::TAIL].to_vec();
+    match value(message, 2) {
+        Some(b"PRTO") => false,
+        Some(b"MODI") => {
+            let element = |code| Some((code, value(message, code)?.to_vec()));
+            let modi: Elements = (1..=LAST_CODE).filter_map(element).collect();
+            let mut corrected = before.clone();
+            corrected.accept(&with(without(modi, 3), 2, "CORR"));
+            terms(&corrected) != terms(before)
+        }
+        _ => true,
+    }
 }
 
 #[test]
@@ -97,6 +116,7 @@ fn messages_of_any_bytes() {
 fn changed_messages_and_ledgers() {
     let mut numbers = Numbers(3);
     let mut verdicts = [0; 20];
+    let mut modi_lines = [0; 2];
     for round in 0..60_000 {
         let mut book = Book::new(1 + numbers.below(3));
         book.accept(&newt());
@@ -140,16 +160,19 @@ fn changed_messages_and_ledgers() {
             // takes one identifier.
             assert!(layout_right(&bytes));
             let next = before.u64_at(header::NEXT_IDENTIFIER);
-            let is_prto = value(&bytes, 2) == Some(b"PRTO");
-            let given = if is_prto { 0 } else { next };
-            assert_eq!(answer.identifier, given);
+            let is_due = is_line_due(&before, &bytes);
+            assert_eq!(answer.identifier, if is_due { next } else { 0 });
             assert_eq!(
                 book.u64_at(header::NEXT_IDENTIFIER),
-                next + u64::from(!is_prto)
+                next + u64::from(is_due)
             );
             let asked = status(&book.ledger, value(&bytes, 1).unwrap());
             assert!((1..=4).contains(&asked.status));
-            assert!(is_prto || asked.identifier == next);
+            assert!(!is_due || asked.identifier == next);
+            if value(&bytes, 2) == Some(b"MODI") {
+                modi_lines[usize::from(is_due)] += 1;
+                assert!(is_due || book == before);
+            }
         }
         let asked = status(&book.ledger, UTI.as_bytes());
         assert!(matches!(asked.verdict, 0 | 3 | 14));
@@ -157,6 +180,7 @@ fn changed_messages_and_ledgers() {
     for verdict in [0, 3, 4, 5, 6, 7, 8, 9, 10, 11, 14, 15, 17, 19] {
         assert!(verdicts[verdict] > 0, "{verdict}: {verdicts:?}");
     }
+    assert!(modi_lines.iter().all(|&n| n > 0), "{modi_lines:?}");
 }
 
 #[test]

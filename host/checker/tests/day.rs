@@ -26,9 +26,14 @@ fn lines(lines: &[&str]) -> String {
     text
 }
 
+/// The UTI of one of many swaps.
+fn swap(number: usize) -> String {
+    format!("5493001KJTIIGC8Y1R12N{number:06}")
+}
+
 /// The plain NEWT about one of many swaps.
-fn newt_of(swap: usize) -> Vec<u8> {
-    laid_out(&with(newt(), 1, &format!("5493001KJTIIGC8Y1R12N{swap:06}")))
+fn newt_of(number: usize) -> Vec<u8> {
+    laid_out(&with(newt(), 1, &swap(number)))
 }
 
 #[test]
@@ -55,6 +60,7 @@ fn lengths_0_and_1() {
 /// Messages of every outcome that the last line counts, and their lines.
 fn small_day() -> Vec<(Vec<u8>, &'static str)> {
     let both = laid_out(&with_spread(with_package(newt(), "1", "3"), "1", "3"));
+    let of_1 = |m| laid_out(&with(m, 1, &swap(1)));
     vec![
         (vec![0, 0], "1 6 2 0"),
         (laid_out(&newt()), "2 0 0 1"),
@@ -67,6 +73,9 @@ fn small_day() -> Vec<(Vec<u8>, &'static str)> {
         (newt_of(1), "9 0 0 3"),
         (laid_out(&with_spread(newt(), "1.5", "4")), "10 12 0 0"),
         (both, "11 19 0 0"),
+        (of_1(modi_as_newt()), "12 0 0 0"),
+        (of_1(modi()), "13 0 0 4"),
+        (of_1(modi()), "14 0 0 0"),
     ]
 }
 
@@ -78,7 +87,7 @@ fn a_day_cut_at_every_byte() {
         .flat_map(|(message, _)| framed(message))
         .collect();
     // after so many messages, so many lines are on the tape
-    let published = [0, 0, 1, 1, 2, 2, 2, 2, 2, 3, 3, 3];
+    let published = [0, 0, 1, 1, 2, 2, 2, 2, 2, 3, 3, 3, 3, 4, 4];
     let (mut judged, mut end) = (0, 0);
     for cut in 0..=bytes.len() {
         if judged < day.len() && cut == end + 2 + day[judged].0.len() {
@@ -91,7 +100,7 @@ fn a_day_cut_at_every_byte() {
         due.push(&last);
         assert_eq!(text(&bytes[..cut]), lines(&due), "cut at {cut}");
     }
-    assert_eq!((judged, end), (11, bytes.len()));
+    assert_eq!((judged, end), (14, bytes.len()));
 }
 
 #[test]
@@ -120,9 +129,9 @@ fn the_longest_message_and_longer_ones() {
 fn a_swap_too_many_finds_no_row() {
     let mut day = Vec::new();
     let mut due = String::from("message verdict element record\n");
-    for swap in 1..=DAY_ROWS {
-        day.extend(framed(&newt_of(swap)));
-        due += &format!("{swap} 0 0 {swap}\n");
+    for number in 1..=DAY_ROWS {
+        day.extend(framed(&newt_of(number)));
+        due += &format!("{number} 0 0 {number}\n");
     }
     let (more, last) = (DAY_ROWS + 1, DAY_ROWS + 2);
     day.extend(framed(&newt_of(more)));
@@ -130,8 +139,7 @@ fn a_swap_too_many_finds_no_row() {
     assert_eq!(text(&day), format!("{due}end {more} {DAY_ROWS}\n"));
     assert!(text(&day).ends_with("340 0 0 340\n341 17 0 0\nend 341 340\n"));
     // A swap that has a row goes on.
-    let known = format!("5493001KJTIIGC8Y1R12N{DAY_ROWS:06}");
-    day.extend(framed(&laid_out(&with(modi(), 1, &known))));
+    day.extend(framed(&laid_out(&with(modi(), 1, &swap(DAY_ROWS)))));
     due += &format!("{last} 0 0 {more}\n");
     assert_eq!(text(&day), format!("{due}end {last} {more}\n"));
 }

@@ -153,28 +153,29 @@ fn a_package_shows_its_price_or_its_spread() {
 fn what_is_left_out_of_a_package() {
     let mut book = Book::new(1);
     book.accept(&newt());
+    let corr = || full("CORR", None);
     let no_package = format!("F{:24}", "");
     let no_price = format!("T{:24}", "");
     let no_spread = " ".repeat(24);
     // 26, 27 and 28 where there is no package, also beside a price
-    let m = with(with_spread(modi(), "7", "1"), 15, "False");
+    let m = with(with_spread(corr(), "7", "1"), 15, "False");
     book.accept(&m);
     assert_eq!(package_shown(&book), (&*no_package, &*no_spread));
     book.accept(&with(with_package(m, "5", "1"), 15, "false"));
     assert_eq!(package_shown(&book), (&*no_package, &*no_spread));
     // 27 and 28 without a spread
-    let m = with(with_package(modi(), "5", "3"), 27, "1");
+    let m = with(with_package(corr(), "5", "3"), 27, "1");
     book.accept(&with(m, 28, "GBP"));
     let shown = package_shown(&book);
     assert_eq!(shown, ("T5                   3   ", &*no_spread));
     // 18 and 19 without a price
-    let m = with(with_spread(modi(), "7", "4"), 18, "1");
+    let m = with(with_spread(corr(), "7", "4"), 18, "1");
     book.accept(&with(m, 19, "EUR"));
     let shown = package_shown(&book);
     assert_eq!(shown, (&*no_price, "7                   4   "));
     // 28 where 27 is not 1
     for notation in ["3", "4"] {
-        book.accept(&with(with_spread(modi(), "7", notation), 28, "GBP"));
+        book.accept(&with(with_spread(corr(), "7", notation), 28, "GBP"));
         let due = format!("{:20}{notation}   ", "7");
         assert_eq!(package_shown(&book), (&*no_price, &*due));
     }
@@ -319,13 +320,13 @@ fn the_first_row_of_equal_length_and_bytes_is_the_swaps() {
     book.accept(&newt());
     // padding is not compared
     book.row_mut(1)[PADDING].fill(b'A');
-    book.accept(&modi());
+    book.accept(&full("CORR", None));
     assert_eq!(book.row(1)[row::IDENTIFIER], 3);
     // a copy of the row further on is not reached
     let copy = book.row(1).to_vec();
     book.row_mut(2).copy_from_slice(&copy);
     book.set_u32(header::ROWS, 3);
-    book.accept(&modi());
+    book.accept(&full("CORR", None));
     let identifiers = [1, 2].map(|place| book.row(place)[row::IDENTIFIER]);
     assert_eq!(identifiers, [4, 3]);
     // a row that is not in use is not the swap's

@@ -669,7 +669,7 @@ fn verdict_18_identifiers_spent() {
     let mut book = Book::new(2);
     book.accept(&newt());
     book.set_u64(header::NEXT_IDENTIFIER, 999_999_999_999);
-    assert_eq!(book.accept(&modi()), 999_999_999_999);
+    assert_eq!(book.accept(&full("CORR", None)), 999_999_999_999);
     assert_eq!(&book.line()[..line::ACTION], "999999999999000000000001");
     assert_eq!(book.u64_at(header::NEXT_IDENTIFIER), 1_000_000_000_000);
     for m in [
@@ -683,7 +683,8 @@ fn verdict_18_identifiers_spent() {
     }
     // 16 comes before 18
     book.refuse(&with(modi(), 6, "2024-02-29T10:15:31Z"), 16, 0);
-    // PRTO writes no line
+    // PRTO writes no line, nor does a MODI that shows nothing new
+    assert_eq!(book.accept(&modi_as_newt()), 0);
     assert_eq!(book.accept(&prto()), 0);
 }
 
@@ -739,7 +740,8 @@ mod misreadings {
         // 2 to the 64th and 1,000
         book.accept(&with(newt(), 20, "18446744073709552616"));
         assert_eq!(&book.line()[AMOUNT], "0000000250000000+");
-        book.accept(&with(modi(), 20, "9999999999999999999999999"));
+        let corr = full("CORR", None);
+        book.accept(&with(corr, 20, "9999999999999999999999999"));
         assert_eq!(&book.line()[AMOUNT], "0000000250000000+");
     }
 

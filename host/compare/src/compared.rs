@@ -138,6 +138,9 @@ impl Compared {
         };
         let answer = self.call(message, call)?;
         self.tally.submission(answer);
+        if answer.identifier == 0 && self.tape_before != self.tape() {
+            return Err(self.mismatch("written without an identifier", message, &[answer]));
+        }
         Ok(answer)
     }
 
@@ -351,7 +354,7 @@ mod tests {
         "the answers differ".to_string()
     }
 
-    static BOTH_WRONG: [(Told, &str); 5] = [
+    static BOTH_WRONG: [(Told, &str); 6] = [
         (
             Told(|ledger, _| {
                 ledger[0] += 1;
@@ -365,6 +368,13 @@ mod tests {
                 answer(15, 0, 0, 0)
             }),
             "a refusal wrote",
+        ),
+        (
+            Told(|_, tape| {
+                tape[0] += 1;
+                answer(0, 0, 0, 0)
+            }),
+            "written without an identifier",
         ),
         (
             Told(|_, _| answer(17, 0, 0, 1)),

@@ -7,8 +7,9 @@ use crate::matrix::{self, is_full, repeats_execution};
 use crate::message::Message;
 use crate::order;
 use crate::random::Random;
+use crate::showing::showing;
 use crate::sound;
-use crate::terms::{line_of, terms_of};
+use crate::terms::{line_is_due, line_of, terms_of};
 use crate::values;
 use sdr::{ACCEPTED, IDENTIFIERS_SPENT, LEDGER_FULL, UNKNOWN};
 use sdr::{NOT_ADMITTED, NOT_A_PAIR, OTHER_TIME, TAPE_SHORT};
@@ -71,6 +72,7 @@ impl Model {
         let row = self.row(uti).map(|row| &self.rows[row]);
         let other_time =
             |row: &Row| row.terms[EXECUTION_IN_TERMS] != *message.value(EXECUTION_TIMESTAMP);
+        let due = line_is_due(message, row.map(|row| &row.terms), &self.header.caps);
         let spent = self.header.next == IDENTIFIER_LIMIT;
         let rules = [
             (TAPE_SHORT, tape_length < LINE_SIZE),
@@ -87,7 +89,7 @@ impl Model {
                 LEDGER_FULL,
                 action == "NEWT" && self.header.rows == self.header.capacity,
             ),
-            (IDENTIFIERS_SPENT, matrix::writes_line(&action) && spent),
+            (IDENTIFIERS_SPENT, due && spent),
         ];
         let broken = rules.into_iter().filter(|(_, broken)| *broken);
         order::first_of(&broken.map(|(rule, _)| rule).collect::<Vec<u8>>())
@@ -98,6 +100,8 @@ impl Model {
         let uti = message.value(UTI);
         let known = self.row(uti);
         let previous = known.map(|row| self.rows[row].identifier);
+        let stored = known.map(|row| self.rows[row].terms);
+        let due = line_is_due(message, stored.as_ref(), &self.header.caps);
         let row = known.unwrap_or_else(|| self.add_row(uti));
         let next = self.header.next;
         let row = &mut self.rows[row];
@@ -107,7 +111,7 @@ impl Model {
         if is_full(&action) {
             row.terms = terms_of(message, &self.header.caps);
         }
-        if !matrix::writes_line(&action) {
+        if !due {
             return Due {
                 verdict: ACCEPTED,
                 identifier: 0,
@@ -135,13 +139,24 @@ pub fn next_message(random: &mut Random, model: &Model, utis: &[Vec<u8>]) -> Mes
     let uti = random.pick(utis);
     let status = model.status(uti);
     let action = next_action(random, status);
-    let mut message = sound::message(random, action, uti);
-    if let Some(row) = model.row(uti) {
-        repeat_execution(random, &mut message, action, &model.rows[row]);
-    }
+    let mut message = match model.row(uti) {
+        Some(row) => about_known(random, action, &model.rows[row], &model.header.caps),
+        None => sound::message(random, action, uti),
+    };
     if random.once_in(12) {
         set_any_event(random, &mut message);
     }
+    message
+}
+
+/// A message about a swap that has a row. One full message in three shows the
+/// stored terms.
+fn about_known(random: &mut Random, action: &str, row: &Row, caps: &Caps) -> Message {
+    if is_full(action) && random.once_in(3) {
+        return showing(random, action, row.uti(), &row.terms, caps);
+    }
+    let mut message = sound::message(random, action, row.uti());
+    repeat_execution(random, &mut message, action, row);
     message
 }
 

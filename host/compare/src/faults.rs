@@ -155,7 +155,7 @@ impl Fault {
             Fault::NotAdmitted(status) => matrix::status_after(action, status).is_none(),
             Fault::OtherTime => matrix::repeats_execution(action),
             Fault::LedgerFull => action == "NEWT",
-            Fault::IdentifiersSpent => matrix::writes_line(action),
+            Fault::IdentifiersSpent => matrix::can_write_line(action),
             _ => true,
         }
     }

@@ -4,7 +4,7 @@
 use crate::compared::Compared;
 use crate::layout::{Caps, LINE_SIZE, TERMS_SIZE};
 use crate::lists::{ACTION_TYPE, EVENT_TIMESTAMP, EVENT_TYPE, UTI};
-use crate::matrix::{is_full, writes_line};
+use crate::matrix::{can_write_line, is_full};
 use crate::message::Message;
 use crate::terms::terms_of;
 
@@ -35,6 +35,8 @@ pub struct Run {
     pub caps: Caps,
     pub messages: Vec<Vec<u8>>,
     pub verdicts: Vec<u8>,
+    /// The identifiers that were answered; 0 where no line was written.
+    pub identifiers: Vec<u64>,
     /// A line's bytes as each submission left them, over accepted messages
     /// that wrote a line.
     pub tape: Vec<u8>,
@@ -50,6 +52,7 @@ pub fn run(compared: &mut Compared, history: &History) -> Run {
         caps: history.caps,
         messages: Vec::new(),
         verdicts: Vec::new(),
+        identifiers: Vec::new(),
         tape: Vec::new(),
     };
     for call in &history.calls {
@@ -57,6 +60,7 @@ pub fn run(compared: &mut Compared, history: &History) -> Run {
         let answer = compared.submit(&call.message);
         run.messages.push(call.message.clone());
         run.verdicts.push(answer.verdict);
+        run.identifiers.push(answer.identifier);
         if answer.verdict == 0 && answer.identifier != 0 {
             run.tape.extend(&compared.tape()[..LINE_SIZE]);
         }
@@ -147,7 +151,8 @@ fn swaps_alike(first: &Run, second: &Run, places: &[usize]) -> bool {
 }
 
 impl Run {
-    fn message(&self, place: usize) -> Message {
+    /// The message at a place where one was accepted.
+    pub fn message(&self, place: usize) -> Message {
         Message::decode(&self.messages[place]).expect("an accepted message's layout is right")
     }
 
@@ -163,7 +168,7 @@ impl Run {
         let action = message.text(ACTION_TYPE);
         if is_full(&action) {
             Some(terms_of(&message, caps))
-        } else if writes_line(&action) {
+        } else if can_write_line(&action) {
             self.stored_terms(place, message.value(UTI), caps)
         } else {
             None

@@ -125,6 +125,28 @@ pub const LINE_SIZE: usize = NEWLINE_IN_LINE.end;
 pub const TERMS_IN_LINE: Range<usize> = EXECUTION_IN_LINE.start..NEWLINE_IN_LINE.start;
 /// The bytes of the masked terms.
 pub const TERMS_SIZE: usize = TERMS_IN_LINE.end - TERMS_IN_LINE.start;
+/// The fields of the masked terms, in order.
+pub const FIELDS_OF_TERMS: [Range<usize>; 19] = [
+    EXECUTION_IN_LINE,
+    EFFECTIVE_IN_LINE,
+    EXPIRATION_IN_LINE,
+    CLEARED_IN_LINE,
+    NON_STANDARDIZED_IN_LINE,
+    BLOCK_IN_LINE,
+    LARGE_IN_LINE,
+    PACKAGE_IN_LINE,
+    PRICE_IN_LINE,
+    PRICE_NOTATION_IN_LINE,
+    PRICE_CURRENCY_IN_LINE,
+    CLASS_IN_LINE,
+    NOTIONAL_IN_LINE,
+    PLUS_IN_LINE,
+    NOTIONAL_CURRENCY_IN_LINE,
+    LOCATION_IN_LINE,
+    SPREAD_IN_LINE,
+    SPREAD_NOTATION_IN_LINE,
+    SPREAD_CURRENCY_IN_LINE,
+];
 /// The execution time opens the masked terms.
 pub const EXECUTION_IN_TERMS: Range<usize> = 0..TIME_SIZE;
 

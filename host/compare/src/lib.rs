@@ -2,8 +2,8 @@
 //!
 //! Both are lent copies of the same ledger, tape buffer and message; their
 //! answers and every byte afterwards have to be equal ([`compared`]). What is
-//! submitted comes from generators ([`sound`], [`faults`], [`cycles`]) that
-//! also say which verdict is due. What they know of the specification stands in
+//! submitted comes from generators ([`sound`], [`showing`], [`faults`],
+//! [`cycles`]) that also say which verdict is due. What they know of the specification stands in
 //! [`layout`] (sizes, offsets and limits), [`lists`], [`codes`] (of currencies
 //! and locations) and [`order`] (of rules).
 
@@ -26,6 +26,7 @@ pub mod message;
 pub mod mix;
 pub mod order;
 pub mod random;
+pub mod showing;
 pub mod sound;
 pub mod tally;
 pub mod terms;

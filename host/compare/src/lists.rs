@@ -117,6 +117,8 @@ pub const FULL_ACTIONS: [&str; 4] = ["NEWT", "MODI", "CORR", "REVI"];
 pub const REPEATING_ACTIONS: [&str; 2] = ["MODI", "REVI"];
 /// The actions that write no line.
 pub const ACTIONS_WITHOUT_LINE: [&str; 1] = ["PRTO"];
+/// The actions that write no line where they repeat the stored masked terms.
+pub const ACTIONS_WITH_NEW_TERMS: [&str; 1] = ["MODI"];
 
 /// The events, in the order of the matrix's columns.
 pub const EVENTS: [&str; 12] = [

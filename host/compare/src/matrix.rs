@@ -28,8 +28,9 @@ pub fn repeats_execution(action: &str) -> bool {
     REPEATING_ACTIONS.contains(&action)
 }
 
-/// Whether an accepted message with this action writes a line.
-pub fn writes_line(action: &str) -> bool {
+/// Whether an accepted message with this action can write a line. Whether it
+/// does is a matter of its terms too (`terms::line_is_due`).
+pub fn can_write_line(action: &str) -> bool {
     !ACTIONS_WITHOUT_LINE.contains(&action)
 }
 

@@ -79,14 +79,15 @@ impl Mix {
     fn life(&mut self) -> Result<(), Mismatch> {
         let message = next_message(&mut self.random, &self.model, &self.utis);
         let length = values::any_tape_length(&mut self.random);
-        self.long.set_tape(&self.random.bytes(length));
+        let tape = self.random.bytes(length);
+        self.long.set_tape(&tape);
         let answer = self.long.try_submit(&message.encode())?;
         let due = self.model.submit(&message, length);
         let same = (answer.verdict, answer.identifier) == (due.verdict, due.identifier);
-        let line = due
-            .line
-            .as_ref()
-            .is_none_or(|line| self.long.tape().starts_with(line));
+        let line = match &due.line {
+            Some(line) => self.long.tape().starts_with(line),
+            None => self.long.tape() == tape,
+        };
         if !same || !line {
             return Err(Mismatch::new(
                 &message.encode(),

@@ -10,6 +10,15 @@ use crate::values;
 
 /// A sound message of an action about a swap.
 pub fn message(random: &mut Random, action: &str, uti: &[u8]) -> Message {
+    let mut message = without_terms(random, action, uti);
+    if is_full(action) {
+        set_terms(random, &mut message);
+    }
+    message
+}
+
+/// The elements that short messages have too.
+pub fn without_terms(random: &mut Random, action: &str, uti: &[u8]) -> Message {
     let mut message = Message::default();
     message.set(UTI, uti).set(ACTION_TYPE, action);
     if let Some(event) = random.pick(&events_of(action)) {
@@ -17,9 +26,6 @@ pub fn message(random: &mut Random, action: &str, uti: &[u8]) -> Message {
     }
     message.set(EVENT_TIMESTAMP, values::time(random));
     message.set(REPORTING_TIMESTAMP, values::time(random));
-    if is_full(action) {
-        set_terms(random, &mut message);
-    }
     message
 }
 
@@ -99,7 +105,7 @@ pub fn set_quote(random: &mut Random, message: &mut Message, quote: &Quote) {
 }
 
 /// The most digits that a notation allows.
-fn most_digits(notation: &str) -> Num {
+pub fn most_digits(notation: &str) -> Num {
     match notation {
         DECIMAL => DECIMAL_NUM,
         BASIS_POINTS => BASIS_POINTS_NUM,

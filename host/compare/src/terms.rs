@@ -2,6 +2,7 @@
 
 use crate::layout::*;
 use crate::lists::*;
+use crate::matrix::can_write_line;
 use crate::message::Message;
 use std::ops::Range;
 
@@ -132,6 +133,16 @@ pub fn terms_of(message: &Message, caps: &Caps) -> [u8; TERMS_SIZE] {
     put(SPREAD_NOTATION_IN_LINE, shown(message, SPREAD_NOTATION));
     put(SPREAD_CURRENCY_IN_LINE, shown(message, SPREAD_CURRENCY));
     line[TERMS_IN_LINE].try_into().expect("the terms' size")
+}
+
+/// Whether a line is due for a message about a swap with these stored terms, or
+/// without any: for every one but a PRTO and a MODI that repeats them.
+pub fn line_is_due(message: &Message, stored: Option<&[u8; TERMS_SIZE]>, caps: &Caps) -> bool {
+    let action = message.text(ACTION_TYPE);
+    if ACTIONS_WITH_NEW_TERMS.contains(&action.as_str()) {
+        return stored != Some(&terms_of(message, caps));
+    }
+    can_write_line(&action)
 }
 
 /// A number in so many digits, zero padded.

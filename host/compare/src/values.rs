@@ -6,7 +6,7 @@ use crate::layout::{LONGEST_PACKAGE_IDENTIFIER, NOTIONAL_NUM};
 use crate::layout::{NOTIONAL_SIZE, SHORTEST_UTI, SMALLEST_CAP, UTI_SIZE};
 use crate::lists::{BANDS, CLASSES, LARGEST_STEP};
 use crate::random::Random;
-use crate::terms::{masked, rounded, UNIT};
+use crate::terms::{masked, rounded, shown_price, UNIT};
 
 /// Capitals and digits.
 pub const CAPITALS_DIGITS: &[u8] = b"ABCDEFGHIJKLMNOPQRSTUVWXYZ0123456789";
@@ -258,7 +258,7 @@ pub fn amount_masked_alike(random: &mut Random, amount: &[u8], cap: u64) -> Vec<
             1 => self::amount(random),
             _ => [b"0", amount].concat(),
         };
-        if other != amount && is_notional(&other) && masked(&other, cap) == due {
+        if other != amount && has_at_most(&other, NOTIONAL_NUM) && masked(&other, cap) == due {
             return other;
         }
     }
@@ -277,12 +277,29 @@ fn beside(random: &mut Random, shown: (u64, bool)) -> Vec<u8> {
     format!("{other}.{}", random.below(UNIT as usize)).into_bytes()
 }
 
-/// Whether an amount that one of the generators made keeps its form.
-fn is_notional(amount: &[u8]) -> bool {
-    let digits = amount.iter().filter(|byte| byte.is_ascii_digit()).count();
-    let point = amount.iter().position(|&byte| byte == b'.');
-    let after = point.map_or(0, |at| amount.len() - at - 1);
-    digits <= NOTIONAL_NUM.digits && after <= NOTIONAL_NUM.after_point
+/// Whether a number that one of the generators made has few enough digits.
+fn has_at_most(number: &[u8], most: Num) -> bool {
+    let digits = number.iter().filter(|byte| byte.is_ascii_digit()).count();
+    let point = number.iter().position(|&byte| byte == b'.');
+    let after = point.map_or(0, |at| number.len() - at - 1);
+    digits <= most.digits && after <= most.after_point
+}
+
+/// Another spelling of a price or a spread of at most so many digits, or the
+/// same one.
+pub fn price_shown_alike(random: &mut Random, price: &[u8], most: Num) -> Vec<u8> {
+    let sign = usize::from(price.starts_with(b"-"));
+    let zeros_behind: &[u8] = if price.contains(&b'.') { b"00" } else { b".0" };
+    let other = match random.below(4) {
+        0 => [&price[..sign], b"0", &price[sign..]].concat(),
+        1 => [price, zeros_behind].concat(),
+        2 => shown_price(price),
+        _ => price.to_vec(),
+    };
+    if has_at_most(&other, most) {
+        return other;
+    }
+    price.to_vec()
 }
 
 /// A price or a spread of at most so many digits.

@@ -719,7 +719,7 @@ fn rows_up_to_capacity() {
         assert_eq!(compared.submit(&swap(rows).encode()).verdict, 17);
         // Known swaps go on, and their names are not free for NEWT.
         assert_eq!(compared.submit(&swap(0).encode()).verdict, 15);
-        let changed = swap(0).with(2, "MODI");
+        let changed = swap(0).with(2, "MODI").with(21, "EUR");
         assert_eq!(compared.submit(&changed.encode()).identifier, rows + 1);
         // Rows equal to capacity are no fault of the header.
         assert_eq!(compared.status(swap(0).value(1)).verdict, 0);
@@ -808,7 +808,7 @@ fn identifiers_that_carry() {
 fn a_row_s_identifier_at_its_ends() {
     let next = 50;
     let uti = plain_new();
-    let changed = plain_new().with(2, "MODI");
+    let changed = plain_new().with(2, "MODI").with(21, "EUR");
     for (identifier, verdict) in [(0, 14), (1, 0), (49, 0), (50, 14), (51, 14), (u64::MAX, 14)] {
         let ledger = in_use(next, identifier);
         for message in [
@@ -904,7 +904,7 @@ fn a_hundred_thousand_rows() {
     compared.set_ledger(&with_rows(100_000, 100_000));
     compared.set_tape(&[b'x'; LINE_SIZE]);
     assert_eq!(compared.submit(&swap(100_000).encode()).verdict, 17);
-    let changed = swap(99_999).with(2, "MODI");
+    let changed = swap(99_999).with(2, "MODI").with(21, "EUR");
     assert_eq!(compared.submit(&changed.encode()).identifier, 200_000);
     assert_eq!(compared.tape()[PREVIOUS_IN_LINE], *b"000000100000");
     let answer = compared.status(swap(99_999).value(1));

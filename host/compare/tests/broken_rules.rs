@@ -3,13 +3,10 @@
 
 use compare::compared::Compared;
 use compare::faults::{self, Case, Fault};
-use compare::layout::{ledger_size, HEADER_SIZE, SHORTEST_LEDGER};
-use compare::lists::{
-    codes, codes_of_full_messages, codes_with_a_form, takes, ACTIONS, ACTION_TYPE,
-};
+use compare::layout::{ledger_size, HEADER_SIZE, IDENTIFIER_LIMIT, SHORTEST_LEDGER};
+use compare::lists::{codes, codes_of_full_messages, codes_with_a_form, takes, ACTIONS};
 use compare::lists::{CLASSES, CONDITIONAL, NEEDED_BY_ALL, NEEDED_BY_FULL};
 use compare::malformed;
-use compare::matrix::writes_line;
 use compare::message::described;
 use compare::order::{OPENING, SUBMITTING};
 use compare::random::Random;
@@ -30,9 +27,11 @@ fn submit(compared: &mut Compared, case: &Case, due: (u8, u8), text: &str) {
     let answer = compared.submit(&message);
     let text = format!("{text}\n{}", described(&message));
     assert_eq!((answer.verdict, answer.element), due, "{text}");
-    let line_due = due.0 == 0 && writes_line(&case.message.text(ACTION_TYPE));
+    let line_due = due.0 == 0 && case.line_is_due();
     let identifier = if line_due { case.header.next } else { 0 };
     assert_eq!(answer.identifier, identifier, "{text}");
+    let stays = compared.tape() == case.tape();
+    assert_eq!(stays, !line_due, "{text}");
 }
 
 /// The faults that a message of the action can have.
@@ -46,12 +45,41 @@ fn sound_cases_are_accepted() {
     let mut random = Random::for_test(101);
     let mut compared = Compared::new();
     for action in ACTIONS {
+        let mut without_line = 0;
         for _ in 0..300 {
-            try_faults(&mut compared, &mut random, action, &[]);
+            let case = Case::sound(&mut random, action);
+            submit(&mut compared, &case, (0, 0), action);
+            without_line += u32::from(!case.line_is_due());
+        }
+        match action {
+            "PRTO" => assert_eq!(without_line, 300),
+            // One in three repeats the stored terms.
+            "MODI" => assert!((60..150).contains(&without_line), "{without_line}"),
+            _ => assert_eq!(without_line, 0, "{action}"),
         }
     }
     println!("sound cases: {}", compared.tally);
     assert_eq!(compared.tally.verdict(0), compared.tally.submissions);
+}
+
+/// Where identifiers are spent only a message for which a line is due gets 18.
+#[test]
+fn spent_identifiers_and_no_line_due() {
+    let mut random = Random::for_test(107);
+    let mut compared = Compared::new();
+    for action in ACTIONS {
+        for _ in 0..150 {
+            let mut case = Case::sound(&mut random, action);
+            case.header.next = IDENTIFIER_LIMIT;
+            let verdict = if case.line_is_due() { 18 } else { 0 };
+            submit(&mut compared, &case, (verdict, 0), action);
+            let unchanged = compared.ledger() == case.ledger();
+            assert_eq!(unchanged, action != "PRTO", "{action}");
+        }
+    }
+    println!("spent identifiers: {}", compared.tally);
+    // Those accepted are the PRTOs and one MODI in three.
+    assert!((180..225).contains(&compared.tally.verdict(0)));
 }
 
 #[test]

@@ -49,8 +49,9 @@ fn lent(ledger: &[u8]) -> Compared {
     compared
 }
 
+/// A change that shows another currency than the row.
 fn changed() -> Message {
-    plain_new().with(2, "MODI")
+    plain_new().with(2, "MODI").with(21, "EUR")
 }
 
 /// The verdicts of a submission and of a status question.

@@ -64,9 +64,9 @@ fn lengths_0_and_1() {
     }
 }
 
-/// The plain swap's MODI.
+/// A MODI of the plain swap that shows another currency.
 fn plain_modi() -> Message {
-    plain_new().with(2, "MODI")
+    plain_new().with(2, "MODI").with(21, "EUR")
 }
 
 /// Messages of every outcome that the last line counts, and their lines.
@@ -78,10 +78,11 @@ fn small_day() -> Vec<(Vec<u8>, &'static str)> {
         (plain_new().encode(), "2 0 0 1"),
         (vec![], "3 5 0 0"),
         (plain_modi().encode(), "4 0 0 2"),
-        (end.with(6, "x").encode(), "5 8 6 0"),
-        (port.encode(), "6 0 0 0"),
-        (end.encode(), "7 15 0 0"),
-        (new_swap(7), "8 0 0 3"),
+        (plain_modi().with(14, "POST").encode(), "5 0 0 0"),
+        (end.with(6, "x").encode(), "6 8 6 0"),
+        (port.encode(), "7 0 0 0"),
+        (end.encode(), "8 15 0 0"),
+        (new_swap(7), "9 0 0 3"),
     ]
 }
 
@@ -91,7 +92,7 @@ fn a_day_cut_at_every_byte() {
     let messages: Vec<Vec<u8>> = day.iter().map(|(message, _)| message.clone()).collect();
     let bytes = days::of(&messages);
     // after so many messages, so many lines are on the tape
-    let published = [0, 0, 1, 1, 2, 2, 2, 2, 3];
+    let published = [0, 0, 1, 1, 2, 2, 2, 2, 2, 3];
     let (mut judged, mut end) = (0, 0);
     for cut in 0..=bytes.len() {
         if judged < day.len() && cut == end + LENGTH_SIZE + messages[judged].len() {
@@ -104,7 +105,7 @@ fn a_day_cut_at_every_byte() {
         due.push(&last);
         check_file(&bytes[..cut], &lines(&due), &format!("cut at {cut}"));
     }
-    assert_eq!((judged, end), (8, bytes.len()));
+    assert_eq!((judged, end), (9, bytes.len()));
 }
 
 #[test]
@@ -206,20 +207,35 @@ fn count(tally: &mut Tally, report: &[u8]) {
 fn random_days() {
     let mut random = Random::for_test(601);
     let mut tally = Tally::default();
-    let (mut number, mut cuts) = (0, 0);
+    let (mut number, mut cuts, mut silent) = (0, 0, 0);
     while tally.submissions < submissions(250_000) {
         let day = any_day(&mut random);
         let due = report(&day);
         check_file(&day, &due, &format!("day {number}"));
         count(&mut tally, &due);
+        silent += modifications_without_line(&day, &due);
         number += 1;
         cuts += u32::from(messages_end(&day) < day.len());
     }
-    println!("{number} random days, {cuts} of them cut: {tally}");
+    println!(
+        "{number} random days, {cuts} of them cut, {silent} modifications without a line: {tally}"
+    );
     for verdict in [&[0], order::of_the_message(), &[15, 16, 17]].concat() {
         assert!(tally.verdict(verdict) > 0, "verdict {verdict}");
     }
     assert!(cuts > 0 && cuts < number);
+    assert!(silent > tally.verdict(0) / 30, "{silent}");
+}
+
+/// How many MODI messages of a day its report tells as accepted without a line.
+fn modifications_without_line(day: &[u8], report: &[u8]) -> u64 {
+    let text = std::str::from_utf8(report).expect("a report is ASCII");
+    let is_one = |(message, line): &(&[u8], &str)| {
+        let modi = Message::decode(message).is_some_and(|message| message.text(2) == "MODI");
+        modi && line.ends_with(" 0 0 0")
+    };
+    let told = days::messages(day).into_iter().zip(text.lines().skip(1));
+    told.filter(is_one).count() as u64
 }
 
 /// A day of up to some thousand messages.

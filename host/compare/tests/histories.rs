@@ -3,17 +3,16 @@
 
 use compare::compared::Compared;
 use compare::cycles::{next_message, Model};
-use compare::histories::{broken_premises, run, Call, History, Premise};
-use compare::layout::{ledger_size, Caps, DAY_CAPS, LINE_SIZE, NEXT_IN_HEADER, PRICE_NUM};
+use compare::histories::{broken_premises, run, Call, History, Premise, Run};
+use compare::layout::{ledger_size, Caps, DAY_CAPS, LINE_SIZE, NEXT_IN_HEADER};
 use compare::layout::{ROW_SIZE, SMALLEST_CAP};
-use compare::lists::{codes, codes_of_full_messages, codes_with_a_form, ACTION_TYPE};
-use compare::lists::{ALLOCATIONS, CLASSES, FALSE, PRICE_NOTATIONS, QUOTES, SPREAD_NOTATIONS};
-use compare::lists::{TRUE, TRUTHS, TRUTH_CODES};
+use compare::lists::{codes_of_full_messages, codes_with_a_form, ACTION_TYPE, CLASSES, QUOTES};
 use compare::malformed;
 use compare::message::Message;
 use compare::random::Random;
+use compare::showing::disguised;
 use compare::sound::{self, plain_package, plain_spread, swap};
-use compare::terms::{applies, cap_of, is_quoted_by, is_true, shown_price};
+use compare::terms::{is_quoted_by, shown_price};
 use compare::values;
 use compare::{matrix, submissions};
 
@@ -85,62 +84,6 @@ fn renamed(message: &Message, utis: &[Vec<u8>], others: &[Vec<u8>]) -> Message {
     message.with(1, &others[place.expect("a swap of the history")])
 }
 
-/// The message with everything else that is not public.
-fn disguised(random: &mut Random, message: &Message, caps: &Caps) -> Message {
-    let mut other = message.clone();
-    if !message.has(6) {
-        other.set(5, values::time(random));
-        return other;
-    }
-    sound::set_execution(random, &mut other, message.value(6));
-    other.set(9, values::date_from(random, message.value(8)));
-    other.set(14, random.pick(&ALLOCATIONS));
-    other.set(23, values::lei(random));
-    other.set(24, values::lei(random));
-    if message.has(16) {
-        other.set(16, values::package_identifier(random));
-    }
-    for code in TRUTH_CODES {
-        spell_otherwise(random, &mut other, code);
-    }
-    let cap = cap_of(message, caps);
-    other.set(
-        20,
-        values::amount_masked_alike(random, message.value(20), cap),
-    );
-    change_left_out(random, &mut other);
-    other
-}
-
-fn spell_otherwise(random: &mut Random, message: &mut Message, code: u8) {
-    if message.has(code) {
-        let spellings = if is_true(message.value(code)) {
-            TRUE
-        } else {
-            FALSE
-        };
-        message.set(code, random.pick(&spellings));
-    }
-}
-
-/// Elements that are left out may be there or not, with any sound value.
-fn change_left_out(random: &mut Random, message: &mut Message) {
-    for code in codes() {
-        if applies(message, code) {
-            continue;
-        }
-        match (random.below(3), code) {
-            (0, _) => _ = message.remove(code),
-            (1, 11) => _ = message.set(11, random.pick(&TRUTHS)),
-            (1, 17 | 26) => _ = message.set(code, values::price(random, PRICE_NUM)),
-            (1, 18) => _ = message.set(18, random.pick(&PRICE_NOTATIONS)),
-            (1, 27) => _ = message.set(27, random.pick(&SPREAD_NOTATIONS)),
-            (1, 19 | 28) => _ = message.set(code, values::currency(random)),
-            _ => {}
-        }
-    }
-}
-
 /// Two calls that are refused with the same number for different reasons.
 fn refused_pair(random: &mut Random) -> (Call, Call) {
     let verdict = *random.pick(&[4, 5, 6, 7, 8, 9, 10, 11, 19, 12, 13, 15]);
@@ -194,7 +137,7 @@ fn refused(random: &mut Random, verdict: u8) -> Call {
 fn tapes_of_agreeing_histories_are_equal() {
     let mut random = Random::for_test(701);
     let mut compared = Compared::new();
-    let (mut pairs, mut lines, mut different) = (0, 0, 0);
+    let (mut pairs, mut lines, mut different, mut silent) = (0, 0, 0, 0);
     while compared.tally.submissions < submissions(24_000) {
         let (first, second) = pair_of_histories(&mut random);
         let first = run(&mut compared, &first);
@@ -203,18 +146,29 @@ fn tapes_of_agreeing_histories_are_equal() {
         assert!(first.tape == second.tape, "tapes differ in pair {pairs}");
         pairs += 1;
         lines += first.tape.len() / LINE_SIZE;
-        different += first
-            .messages
-            .iter()
-            .zip(&second.messages)
-            .filter(|(a, b)| a != b)
-            .count();
+        let differ = |place: &usize| first.messages[*place] != second.messages[*place];
+        different += (0..CALLS).filter(differ).count();
+        let places = modifications_without_line(&first);
+        assert_eq!(places, modifications_without_line(&second));
+        silent += places.into_iter().filter(differ).count();
     }
     println!(
-        "histories: {pairs} pairs, {lines} lines, {}",
+        "histories: {pairs} pairs, {lines} lines, {silent} modifications without one, {}",
         compared.tally
     );
     assert!(lines > 5 * pairs && different > 20 * pairs);
+    // There are some in most pairs, with other values on each side.
+    assert!(silent > pairs / 2, "{silent} in {pairs} pairs");
+}
+
+/// The places of the MODI messages that were accepted and wrote no line.
+fn modifications_without_line(run: &Run) -> Vec<usize> {
+    let is_one = |&place: &usize| {
+        run.verdicts[place] == 0
+            && run.identifiers[place] == 0
+            && run.message(place).text(ACTION_TYPE) == "MODI"
+    };
+    (0..run.verdicts.len()).filter(is_one).collect()
 }
 
 /// The premises that two histories break, and whether their tapes differ.
@@ -237,6 +191,10 @@ fn plain(messages: &[Message]) -> History {
         tampering: (0, Vec::new()),
         calls: messages.iter().map(call).collect(),
     }
+}
+
+fn change(n: u64) -> Message {
+    swap(n).with(2, "MODI")
 }
 
 fn correct(n: u64) -> Message {
@@ -378,6 +336,45 @@ fn stored_terms_broken() {
     breaks_only(Premise::Terms, &first, &second);
 }
 
+/// A change that shows nothing in one list shows something in the other.
+#[test]
+fn a_line_more_breaks_the_terms() {
+    let first = ending_with(change(1));
+    let second = ending_with(change(1).with(21, "EUR"));
+    breaks_only(Premise::Terms, &first, &second);
+    // So it does where the change is the same and the terms before it are not.
+    let second = plain(&[swap(1).with(21, "EUR"), swap(2), change(1)]);
+    breaks_only(Premise::Terms, &first, &second);
+}
+
+/// A change that shows nothing leaves no trace, whatever it holds and whatever
+/// swap it is about. Premises may ask for more than the tapes need.
+#[test]
+fn changes_that_show_nothing_leave_equal_tapes() {
+    let other = change(1)
+        .with(5, "2024-03-02T00:00:00Z")
+        .with(9, "2030-01-01")
+        .with(14, "POST")
+        .with(16, "P")
+        .with(20, "1499999.99999")
+        .with(23, "EXAMPLEOSTERMOOR0190")
+        .with(24, "EXAMPLEBRACKWATER111")
+        .with(26, "-5");
+    let first = plain(&[swap(1), swap(2), change(1), correct(1)]);
+    for (message, broken) in [
+        (other.clone(), vec![]),
+        (other.with(3, "UPDT"), vec![Premise::Event]),
+        (
+            other.with(4, "2024-03-02T00:00:00Z"),
+            vec![Premise::EventTime],
+        ),
+        (other.with(1, swap(2).value(1)), vec![Premise::Swap]),
+    ] {
+        let second = plain(&[swap(1), swap(2), message, correct(1)]);
+        assert_eq!(compare_histories(&first, &second), (broken, false));
+    }
+}
+
 #[test]
 fn the_same_swap_broken_both_ways() {
     // A change names the first swap in one list and the second in the other.
@@ -450,7 +447,7 @@ fn random_histories_with_one_public_change() {
     while compared.tally.submissions < submissions(12_000) {
         let (first, mut second) = pair_of_histories(&mut random);
         let before = run(&mut compared, &first);
-        let Some((place, premise)) = change_one(&mut random, &before.verdicts, &mut second) else {
+        let Some((place, premise)) = change_one(&mut random, &before, &mut second) else {
             continue;
         };
         let after = run(&mut compared, &second);
@@ -463,24 +460,26 @@ fn random_histories_with_one_public_change() {
     assert!(tried > 50);
 }
 
-/// Changes the event time, the currency, or price or spread of one accepted
-/// message.
+/// Changes the currency, or price or spread of one accepted message, or the
+/// event time of one that wrote a line.
 fn change_one(
     random: &mut Random,
-    verdicts: &[u8],
+    before: &Run,
     history: &mut History,
 ) -> Option<(usize, Premise)> {
-    let place = random.below(verdicts.len());
+    let place = random.below(before.verdicts.len());
     let message = Message::decode(&history.calls[place].message)?;
-    let action = message.text(ACTION_TYPE);
-    if verdicts[place] != 0 || !matrix::writes_line(&action) {
+    if before.verdicts[place] != 0 {
         return None;
     }
-    let (code, value, premise) = if matrix::is_full(&action) && random.once_in(2) {
+    let full = matrix::is_full(&message.text(ACTION_TYPE));
+    let (code, value, premise) = if full && random.once_in(2) {
         let (code, value) = change_of_terms(random, &message);
         (code, value, Premise::Terms)
-    } else {
+    } else if before.identifiers[place] != 0 {
         (4, values::time(random), Premise::EventTime)
+    } else {
+        return None;
     };
     if message.value(code) == value {
         return None;

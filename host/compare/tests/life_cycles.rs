@@ -11,7 +11,8 @@ use compare::message::{described, Message};
 use compare::random::Random;
 use compare::tally::Tally;
 use compare::{submissions, values};
-use std::collections::BTreeSet;
+use sdr::Answer;
+use std::collections::{BTreeMap, BTreeSet};
 
 /// Lengths of ledgers, from one row to those of a day.
 const LENGTHS: [usize; 9] = [
@@ -32,6 +33,8 @@ struct Met {
     tally: Tally,
     pairs: BTreeSet<(String, String)>,
     steps: BTreeSet<(String, u8, bool)>,
+    /// How many messages of an action were accepted, with a line or without.
+    accepted: BTreeMap<(String, bool), u64>,
 }
 
 /// A ledger in use, with its model.
@@ -79,7 +82,7 @@ impl Ledger {
         self.ask(message.value(1));
         let other = random.pick(&self.utis).clone();
         self.ask(&other);
-        met.note(&message, status, answer.verdict);
+        met.note(&message, status, answer);
     }
 
     /// The swap's row and the header are as the model says.
@@ -110,14 +113,23 @@ impl Ledger {
 }
 
 impl Met {
-    fn note(&mut self, message: &Message, status: u8, verdict: u8) {
+    fn note(&mut self, message: &Message, status: u8, answer: Answer) {
         let (action, event) = (message.text(ACTION_TYPE), message.text(EVENT_TYPE));
+        let verdict = answer.verdict;
         if verdict == 0 {
             self.pairs.insert((action.clone(), event));
+            let key = (action.clone(), answer.identifier != 0);
+            *self.accepted.entry(key).or_default() += 1;
         }
         if verdict == 0 || verdict == sdr::NOT_ADMITTED {
             self.steps.insert((action, status, verdict == 0));
         }
+    }
+
+    /// How many messages of an action were accepted and wrote a line, or none.
+    fn accepted(&self, action: &str, line: bool) -> u64 {
+        let key = (action.to_string(), line);
+        self.accepted.get(&key).copied().unwrap_or(0)
     }
 
     /// Every pair of the matrix was accepted, and every step taken or refused
@@ -139,6 +151,15 @@ impl Met {
             statuses().map(step)
         });
         assert_eq!(self.steps, steps.collect());
+        for action in ACTIONS {
+            let (with, without) = (self.accepted(action, true), self.accepted(action, false));
+            match action {
+                "PRTO" => assert!(with == 0 && without > 0),
+                // One MODI in three repeats the stored terms.
+                "MODI" => assert!(with > without && without > with / 5),
+                _ => assert!(with > 0 && without == 0, "{action}"),
+            }
+        }
     }
 }
 
@@ -208,19 +229,20 @@ fn identifiers_run_out() {
     ledger.model.header.next = IDENTIFIER_LIMIT - 100;
     ledger.before[..layout::HEADER_SIZE].copy_from_slice(&ledger.model.header.encode());
     ledger.compared.set_ledger(&ledger.before);
-    for _ in 0..1_500 {
+    while ledger.model.header.next < IDENTIFIER_LIMIT {
         ledger.step(&mut random, &mut met);
+    }
+    // Nothing but PRTO and MODI without a line is accepted then.
+    let mut spent = Met::default();
+    for _ in 0..1_300 {
+        ledger.step(&mut random, &mut spent);
     }
     ledger.check_ledger();
     println!("spent identifiers: {}", ledger.compared.tally);
     assert_eq!(ledger.model.header.next, IDENTIFIER_LIMIT);
     assert!(ledger.compared.tally.verdict(sdr::IDENTIFIERS_SPENT) > 0);
-    // Nothing but PRTO is accepted then.
-    let ported = ledger
-        .model
-        .rows
-        .iter()
-        .filter(|row| row.status == sdr::PORTED);
-    let accepted = ledger.compared.tally.verdict(0) - ledger.compared.tally.openings;
-    assert_eq!(accepted, 100 + ported.count() as u64);
+    let lines = met.accepted.iter().filter(|((_, line), _)| *line);
+    assert_eq!(lines.map(|(_, count)| count).sum::<u64>(), 100);
+    let expected = [("MODI".to_string(), false), ("PRTO".to_string(), false)];
+    assert!(spent.accepted.keys().eq(&expected), "{:?}", spent.accepted);
 }

@@ -91,28 +91,7 @@ fn the_line() {
 
 #[test]
 fn the_masked_terms() {
-    let terms = [
-        EXECUTION_IN_LINE,
-        EFFECTIVE_IN_LINE,
-        EXPIRATION_IN_LINE,
-        CLEARED_IN_LINE,
-        NON_STANDARDIZED_IN_LINE,
-        BLOCK_IN_LINE,
-        LARGE_IN_LINE,
-        PACKAGE_IN_LINE,
-        PRICE_IN_LINE,
-        PRICE_NOTATION_IN_LINE,
-        PRICE_CURRENCY_IN_LINE,
-        CLASS_IN_LINE,
-        NOTIONAL_IN_LINE,
-        PLUS_IN_LINE,
-        NOTIONAL_CURRENCY_IN_LINE,
-        LOCATION_IN_LINE,
-        SPREAD_IN_LINE,
-        SPREAD_NOTATION_IN_LINE,
-        SPREAD_CURRENCY_IN_LINE,
-    ];
-    assert_eq!(fields("**7.2**"), terms);
+    assert_eq!(fields("**7.2**"), FIELDS_OF_TERMS);
 }
 
 #[test]

@@ -153,9 +153,10 @@ pub fn open(ledger: &mut [u8], caps: &[u64; 5]) -> Answer {
     Answer::unpack(u64::from(number))
 }
 
-/// Submits one message. Where it is accepted the row is written and, for
-/// every action but PRTO, a line into the first [`LINE_SIZE`] bytes of the
-/// tape buffer. A refusal changes neither buffer.
+/// Submits one message. Where it is accepted the row is written and, where a
+/// line is due, the line into the first [`LINE_SIZE`] bytes of the tape buffer.
+/// The answer's identifier is 0 where none was due: for PRTO, and for a MODI
+/// that shows nothing new, which changes neither buffer. Nor does a refusal.
 pub fn submit(ledger: &mut [u8], tape: &mut [u8], message: &[u8]) -> Answer {
     // SAFETY: pointers and lengths are those of three slices that cannot
     // overlap, since two are borrowed mutably; the core writes only to those

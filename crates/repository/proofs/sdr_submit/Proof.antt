@@ -3,7 +3,8 @@ use mathlib.Core.Path.{_∙_}
 use lib.Dec.{lit<}
 use Rattle.submission.specs.Opening.{documentLimits}
 use Rattle.submission.proofs.Demand1.{submission-answers}
-use Rattle.submission.proofs.Demand2.{verdict-exactly, checking-order, accepted-exactly, acceptance-writes}
+use Rattle.submission.proofs.LineDueLaws.{line-due-exactly}
+use Rattle.submission.proofs.Demand2.{verdict-exactly, checking-order, accepted-exactly, quiet-modification, acceptance-writes}
 use Rattle.submission.proofs.Demand3.{tape-published, same-tapes, masked-terms-public}
 use Rattle.submission.proofs.Counting.{identifier-with-line, identifier-counts, quiet-call}
 use Rattle.repository.specs.Demands.{Submission-demands}
@@ -20,6 +21,8 @@ demands =
       exactly = verdict-exactly;
       order = checking-order;
       accepted = accepted-exactly;
+      due = line-due-exactly;
+      modification = quiet-modification;
       writes = acceptance-writes;
       tapes = same-tapes;
       published = tape-published;
@@ -28,6 +31,7 @@ demands =
       quiet = quiet-call;
       number = number-carries;
       terms = masked-terms-public;
+      modification-here = quiet-modification documentLimits (lit< tt);
       writes-here = acceptance-writes documentLimits (lit< tt);
       tapes-here = same-tapes documentLimits (lit< tt);
       published-here = tape-published documentLimits (lit< tt);

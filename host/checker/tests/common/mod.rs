@@ -109,7 +109,14 @@ pub fn newt() -> Elements {
     full("NEWT", Some("TRAD"))
 }
 
+/// A line is due for it after any other of these messages: its notional is
+/// another.
 pub fn modi() -> Elements {
+    with(full("MODI", Some("TRAD")), 20, "2000000")
+}
+
+/// A MODI that shows what the plain NEWT shows.
+pub fn modi_as_newt() -> Elements {
     full("MODI", Some("TRAD"))
 }
 

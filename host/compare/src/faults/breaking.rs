@@ -32,7 +32,7 @@ impl Case {
             Fault::NotAdmitted(status) => self.set_status(random, status),
             Fault::OtherTime => self.other_time(random),
             Fault::LedgerFull => self.fill_up(),
-            Fault::IdentifiersSpent => self.spend(),
+            Fault::IdentifiersSpent => self.spend(random),
         }
     }
 
@@ -201,8 +201,13 @@ impl Case {
         self.header.capacity = rows as u32;
     }
 
-    fn spend(&mut self) {
+    /// No identifier is left, and a line is due.
+    fn spend(&mut self, random: &mut Random) {
         self.header.next = IDENTIFIER_LIMIT;
+        while !self.line_is_due() {
+            self.message
+                .set(NOTIONAL_CURRENCY, values::currency(random));
+        }
     }
 }
 

@@ -3,12 +3,13 @@
 use super::breaking::spoiled;
 use super::{Fault, Layout};
 use crate::layout::{self, Header, Row, EXECUTION_IN_TERMS, IDENTIFIER_LIMIT, ROW_SIZE, TAIL_SIZE};
-use crate::lists::ROW_STATUSES;
+use crate::lists::{ROW_STATUSES, UTI};
 use crate::matrix;
 use crate::message::Message;
 use crate::random::Random;
+use crate::showing::showing;
 use crate::sound;
-use crate::terms::terms_of;
+use crate::terms::{line_is_due, terms_of};
 use crate::values;
 use sdr::ACCEPTED;
 
@@ -56,6 +57,7 @@ impl Case {
     }
 
     /// A sound message about the case's swap; NEWT is about an unknown one.
+    /// One full message in three shows the stored terms.
     fn set_message(&mut self, random: &mut Random, action: &str, unknown: &[u8]) {
         if action == "NEWT" {
             self.message = sound::message(random, action, unknown);
@@ -63,8 +65,12 @@ impl Case {
         }
         let row = &mut self.rows[self.row];
         row.status = *random.pick(&matrix::admitting(action));
-        let execution = row.terms[EXECUTION_IN_TERMS].to_vec();
-        self.message = sound::message_executed(random, action, row.uti(), &execution);
+        self.message = if matrix::is_full(action) && random.once_in(3) {
+            showing(random, action, row.uti(), &row.terms, &self.header.caps)
+        } else {
+            let execution = row.terms[EXECUTION_IN_TERMS].to_vec();
+            sound::message_executed(random, action, row.uti(), &execution)
+        };
         if action == "CORR" && random.once_in(2) {
             let mended = values::time(random);
             sound::set_execution(random, &mut self.message, &mended);
@@ -95,6 +101,13 @@ impl Case {
             Some(fault) => spoiled(&self.message, fault),
             None => self.message.encode(),
         }
+    }
+
+    /// Whether a line is due for the message, which breaks no rule.
+    pub fn line_is_due(&self) -> bool {
+        let of_message = |row: &&Row| row.uti() == self.message.value(UTI);
+        let row = self.rows.iter().find(of_message);
+        line_is_due(&self.message, row.map(|row| &row.terms), &self.header.caps)
     }
 
     /// Puts faults in and says which verdict and element are due.

@@ -17,7 +17,7 @@ returns-2 : tie.Need-returns-2
 unfolding numbers
 returns-2 c =
     let args = c .before .before .before .args in
-    ap (λ (steps : List _). getD steps (args .status) noStep) (c .before .columns-of .ensures .6) ∙ entry (nextStatus (args .a)) (ported + 1) (args .status) noStep (search needs)
+    ap (λ (steps : List _). getD steps (args .status) noStep) (c .before .columns-of .ensures .7) ∙ entry (nextStatus (args .a)) (ported + 1) (args .status) noStep (search needs)
 
 pub status-after-spec : {M : Type 1} → statement M
 status-after-spec = tie.close (tie.spec returns (λ c κs. search needs) (λ c. search needs) returns-2)

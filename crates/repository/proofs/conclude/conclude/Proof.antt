@@ -5,9 +5,9 @@ use lib.ListN.{length}
 use Rattle.ledger.specs.Header.{nextIdentifier}
 use Rattle.octets.specs.Choice.{choose}
 use Rattle.terms.specs.Terms.{termsSize}
-use Rattle.submission.specs.Submission.{lineDueIn, findsSpent, termsFor}
+use Rattle.submission.specs.Submission.{lineDue, lineDueIn, findsSpent, termsFor}
 use Rattle.repository.specs.Answers.{answerWith}
-use Rattle.repository.proofs.AdmissionLaws.{terms-are, next-is}
+use Rattle.repository.proofs.AdmissionLaws.{terms-are, due-is, next-is}
 use borrow.Author.Needs.{needs}
 use Rattle.repository.proofs.conclude.conclude.Statement.{statement}
 use Rattle.repository.proofs.conclude.conclude.Tie as tie
@@ -27,13 +27,12 @@ terms c = c .collect-terms .ensures ∙ terms-are (start c .pre)
 long : (c : tie.After-collect-terms) → length (c .collect-terms .last .0) ≡ termsSize
 long c = search needs
 
-abbrev collected : tie.After-writes-line → tie.After-collect-terms
-collected c = c .before .before
+abbrev collected : tie.After-is-line-due → tie.After-collect-terms
+collected c = c .before .before .before .before .before
 
 -- whether a line is due
-due : (c : tie.After-writes-line) → c .writes-line .result ≡ lineDueIn (start (collected c) .args .s .action) (now (start (collected c) .args .l)) (now (start (collected c) .args .m))
-unfolding lineDueIn
-due c = c .writes-line .ensures
+due : (c : tie.After-is-line-due) → c .is-line-due .result ≡ lineDueIn (start (collected c) .args .s .action) (now (start (collected c) .args .l)) (now (start (collected c) .args .m))
+due c = c .is-line-due .ensures ∙ ap₂ (lineDue (start (collected c) .args .s .action)) (terms (collected c)) (c .before .terms-at .ensures) ∙ due-is (start (collected c) .pre)
 
 -- whether identifiers are spent
 spent : (c : tie.After-finds-spent) → c .finds-spent .result ≡ findsSpent (lineDueIn (start (collected (c .before)) .args .s .action) (now (start (collected (c .before)) .args .l)) (now (start (collected (c .before)) .args .m))) (nextIdentifier (now (start (collected (c .before)) .args .l)))
@@ -62,6 +61,8 @@ conclude-spec =
     (tie.spec
     (λ c. search needs)
     collect-terms-requires
+    (λ c. search needs)
+    (λ c κs. search needs)
     (λ c κs. search needs)
     (λ c κs. search needs)
     (λ c κs. search needs)
