@@ -8,3 +8,5 @@ pub mod RowFields
 pub mod ReadBack
 pub mod LineLaws
 pub mod SwapLaws
+pub mod RowListLaws
+pub mod RowsInUse

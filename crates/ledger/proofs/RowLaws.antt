@@ -1,15 +1,21 @@
 -- Laws of specs/Rows.antt. Assumes nothing.
 use Prim.Native.Nat.{ℕ, _+_, _≤_}
-use mathlib.Core.Path.{_≡_, refl, ap, _∙_}
+use mathlib.Core.Bool.{true}
+use mathlib.Core.Path.{_≡_, refl, sym, ap, _∙_}
 use mathlib.Core.List.{[], _∷_}
 use native.Mathlib.Omega.{arith}
 use lib.ListN.{length, getD, drop, take-append-drop}
 use lib.Seq.{drop-drop}
+use lib.Dec.{eqb}
+use borrow.Author.Tests.{eqb-true}
 use Rattle.octets.specs.Bytes.{Bytes}
 use Rattle.octets.specs.Part.{part, splice}
+use Rattle.octets.specs.Same.{sameBytes}
+use Rattle.octets.proofs.ChoiceLaws.{both-first, both-second, same-test}
 use Rattle.octets.proofs.PartLaws.{length-part}
-use Rattle.ledger.specs.Layout.{u8, statusAt, rowSize, rowStart}
-use Rattle.ledger.specs.Rows.{rowAt, statusOf, withStatus}
+use Rattle.octets.proofs.SameLaws.{same-refl, same-true}
+use Rattle.ledger.specs.Layout.{u8, statusAt, lengthAt, utiAt, rowSize, rowStart}
+use Rattle.ledger.specs.Rows.{rowAt, statusOf, holdsUti, withStatus}
 
 -- a row that ends in the ledger is whole
 pub length-row : (l : Bytes) (k : ℕ) → rowStart (k + 1) ≤ length l → length (rowAt l k) ≡ rowSize
@@ -36,3 +42,18 @@ status-own r size = ap (splice r statusAt) (first-byte r size) ∙ splice-own r 
     first-byte : (r : Bytes) → length r ≡ rowSize → getD r statusAt 0 ∷ [] ≡ part r statusAt u8
     first-byte [] size = absurd (omega arith)
     first-byte (x ∷ xs) size = refl
+
+-- ---- a row holds one UTI
+
+pub holds-once : (u v r : Bytes) → holdsUti u r ≡ true → holdsUti v r ≡ true → u ≡ v
+unfolding holdsUti
+holds-once u v r p q =
+    let eu : eqb (getD r lengthAt 0) (length u) ≡ true = both-first _ (sameBytes (part r utiAt (length u)) u) p in
+    let ev : eqb (getD r lengthAt 0) (length v) ≡ true = both-first _ (sameBytes (part r utiAt (length v)) v) q in
+    let n : length u ≡ length v = sym (eqb-true _ _ eu) ∙ eqb-true _ _ ev in
+    let su : part r utiAt (length u) ≡ u = same-true _ _ (both-second (eqb (getD r lengthAt 0) (length u)) _ p) in
+    let sv : part r utiAt (length v) ≡ v = same-true _ _ (both-second (eqb (getD r lengthAt 0) (length v)) _ q) in
+    sym su ∙ rw n sv
+
+pub holds-same : (u v r : Bytes) → holdsUti u r ≡ true → holdsUti v r ≡ sameBytes u v
+holds-same u v r own = same-test _ _ (λ h. rw (holds-once u v r own h) (same-refl v)) (λ h. rw (← same-true u v h) own)

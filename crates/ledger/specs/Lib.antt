@@ -2,4 +2,5 @@ pub mod Line
 pub mod Layout
 pub mod Header
 pub mod Rows
+pub mod RowList
 pub mod Document

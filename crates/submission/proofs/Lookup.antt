@@ -6,17 +6,14 @@ use mathlib.Core.Logic.{_↔_}
 use native.Mathlib.Numerals.{add-one}
 use native.Mathlib.Nat.{zero-add}
 use native.Mathlib.Omega.{arith}
-use lib.ListN.{length, getD}
+use lib.ListN.{length}
 use lib.Dec.{eqb, ltb}
 use borrow.Author.Tests.{eqb-true, eqb-false, ltb-true, ltb-false, lt-ltb}
 use Rattle.octets.specs.Bytes.{Bytes}
 use Rattle.octets.specs.Choice.{choose}
 use Rattle.octets.specs.Search.{firstFrom}
-use Rattle.octets.specs.Part.{part, splice}
-use Rattle.octets.specs.Same.{sameBytes}
-use Rattle.octets.proofs.ChoiceLaws.{both-first, both-second}
+use Rattle.octets.specs.Part.{splice}
 use Rattle.octets.proofs.SearchLaws.{first-passes, first-same, first-stays, first-last}
-use Rattle.octets.proofs.SameLaws.{same-true}
 use Rattle.octets.proofs.PartLaws.{length-part}
 use Rattle.terms.specs.Terms.{termsSize}
 use Rattle.terms.proofs.TermLaws.{length-terms}
@@ -24,7 +21,7 @@ use Rattle.actions.specs.declared.Action.{Action}
 use Rattle.actions.specs.Actions.{isFull, isNew, nextStatus}
 use Rattle.actions.proofs.KindLaws.{old-unless-full}
 use Rattle.ledger.specs.declared.header.Caps.{Caps}
-use Rattle.ledger.specs.Layout.{u32, lengthAt, utiAt, utiSize, termsAt, headerSize, rowSize, rowStart}
+use Rattle.ledger.specs.Layout.{u32, utiSize, termsAt, headerSize, rowSize, rowStart}
 use Rattle.ledger.specs.Header.{rowsInUse, nextIdentifier, capacityIn, capsIn}
 use Rattle.ledger.specs.Rows.{rowAt, statusOf, storedTerms, holdsUti, placeIn, placeOf, isKnown, swapRow, swapStatus, newRow, headerAfter}
 use Rattle.ledger.proofs.RowLaws as row
@@ -35,18 +32,6 @@ use Rattle.ledger.proofs.ReadBack.{row-length, row-rows, row-next, row-caps, ro
 use Rattle.submission.specs.Submission.{swapOf, lineDueIn, capOn, maskedTerms, termsFor, placeFor, rowFor, ledgerFor}
 use Rattle.submission.proofs.LineDueLaws.{old-unless-due, new-due}
 use Rattle.submission.proofs.Acceptance.{HasPlace}
-
--- ---- a row holds one UTI
-
-holds-once : (u v r : Bytes) → holdsUti u r ≡ true → holdsUti v r ≡ true → u ≡ v
-unfolding holdsUti
-holds-once u v r p q =
-    let eu : eqb (getD r lengthAt 0) (length u) ≡ true = both-first _ (sameBytes (part r utiAt (length u)) u) p in
-    let ev : eqb (getD r lengthAt 0) (length v) ≡ true = both-first _ (sameBytes (part r utiAt (length v)) v) q in
-    let n : length u ≡ length v = sym (eqb-true _ _ eu) ∙ eqb-true _ _ ev in
-    let su : part r utiAt (length u) ≡ u = same-true _ _ (both-second (eqb (getD r lengthAt 0) (length u)) _ p) in
-    let sv : part r utiAt (length v) ≡ v = same-true _ _ (both-second (eqb (getD r lengthAt 0) (length v)) _ q) in
-    sym su ∙ rw n sv
 
 -- the row of a known swap holds its UTI
 known-holds : (l u : Bytes) → placeOf l u < rowsInUse l → holdsUti u (swapRow l u) ≡ true
@@ -222,7 +207,7 @@ module _ {largest : ℕ} {l m : Bytes} {a : Action} (f : HasPlace largest l m a)
     apart e g p =
         let own : holdsUti (swapOf m) (swapRow l (swapOf m)) ≡ true = known-holds l (swapOf m) (ltb-true _ _ (f .known e)) in
         let at : placeOf l v ≡ placeOf l (swapOf m) = p ∙ old-place e in
-        differ (holds-once (swapOf m) v (swapRow l (swapOf m)) own (subst (λ j. holdsUti v (rowAt l j) ≡ true) at (known-holds l v g)))
+        differ (row.holds-once (swapOf m) v (swapRow l (swapOf m)) own (subst (λ j. holdsUti v (rowAt l j) ≡ true) at (known-holds l v g)))
 
     other-holds : isNew a ≡ true → holdsUti v (rowAt (ledgerFor a l m) (rowsInUse l)) ≡ false
     other-holds e = by (holdsUti v (rowAt (ledgerFor a l m) (rowsInUse l))) refl
