@@ -1,6 +1,7 @@
 pub mod LineDueLaws
 pub mod Acceptance
 pub mod Lookup
+pub mod RowsAfter
 pub mod Outcome
 pub mod PublishedTape
 pub mod Pairs

@@ -13,6 +13,7 @@ use Rattle.octets.specs.Bytes.{Bytes}
 use Rattle.octets.specs.Choice.{choose}
 use Rattle.octets.specs.Search.{firstFrom}
 use Rattle.octets.specs.Part.{splice}
+use Rattle.octets.proofs.ChoiceLaws.{not-true-false}
 use Rattle.octets.proofs.SearchLaws.{first-passes, first-same, first-stays, first-last}
 use Rattle.octets.proofs.PartLaws.{length-part}
 use Rattle.terms.specs.Terms.{termsSize}
@@ -34,7 +35,7 @@ use Rattle.submission.proofs.LineDueLaws.{old-unless-due, new-due}
 use Rattle.submission.proofs.Acceptance.{HasPlace}
 
 -- the row of a known swap holds its UTI
-known-holds : (l u : Bytes) → placeOf l u < rowsInUse l → holdsUti u (swapRow l u) ≡ true
+pub known-holds : (l u : Bytes) → placeOf l u < rowsInUse l → holdsUti u (swapRow l u) ≡ true
 unfolding placeIn
 known-holds l u h = first-passes (λ k. holdsUti u (rowAt l k)) 0 (rowsInUse l) (omega arith)
 
@@ -116,7 +117,7 @@ module _ {largest : ℕ} {l m : Bytes} {a : Action} (f : HasPlace largest l m a)
   unfolding ledgerFor
   row-written = raised-row a (lineDueIn a l m) (rowsInUse l) (nextIdentifier l) stored header-there (placeFor a l m) ∙ row-same l (rowFor a l m) (placeFor a l m) length-after here
 
-  row-kept : (j : ℕ) → (j ≡ placeFor a l m → ⊥) → rowAt (ledgerFor a l m) j ≡ rowAt l j
+  pub row-kept : (j : ℕ) → (j ≡ placeFor a l m → ⊥) → rowAt (ledgerFor a l m) j ≡ rowAt l j
   unfolding ledgerFor
   row-kept j differ = raised-row a (lineDueIn a l m) (rowsInUse l) (nextIdentifier l) stored header-there j ∙ row-other l (rowFor a l m) (placeFor a l m) length-after here j differ
 
@@ -134,15 +135,25 @@ module _ {largest : ℕ} {l m : Bytes} {a : Action} (f : HasPlace largest l m a)
 
   -- ---- which UTIs the rows hold
 
-  -- a row that is not new holds the UTI that it held
-  old-holds : isNew a ≡ false → (v : Bytes) → length v ≤ utiSize → (j : ℕ) → holdsUti v (rowAt (ledgerFor a l m) j) ≡ holdsUti v (rowAt l j)
+  -- the row that NEWT writes holds the message's UTI and no other
+  pub new-row-holds : isNew a ≡ true → (v : Bytes) → (holdsUti v (rowFor a l m) ≡ true) ↔ (swapOf m ≡ v)
   unfolding rowFor
+  new-row-holds e v =
+      let is : rowFor a l m ≡ newRow (nextStatus a (swapStatus l (swapOf m))) (swapOf m) (nextIdentifier l) (termsFor a l m) = rw (new-due a l m e, e) in
+      rw is (new-holds _ (swapOf m) (nextIdentifier l) (termsFor a l m) (f .uti) v)
+
+  -- the row that any other action writes holds the UTI that it held
+  pub old-row-holds : isNew a ≡ false → (v : Bytes) → length v ≤ utiSize → holdsUti v (rowFor a l m) ≡ holdsUti v (rowAt l (placeFor a l m))
+  unfolding rowFor
+  old-row-holds e v h = after-holds a (lineDueIn a l m) _ (swapOf m) (nextIdentifier l) (termsFor a l m) (rowAt l (placeFor a l m)) length-shown (row-whole (placeFor a l m) (f .place)) e v h
+
+  old-holds : isNew a ≡ false → (v : Bytes) → length v ≤ utiSize → (j : ℕ) → holdsUti v (rowAt (ledgerFor a l m) j) ≡ holdsUti v (rowAt l j)
   old-holds e v h j = by (eqb j (placeFor a l m)) refl
     where
       by : (b : Bool) → eqb j (placeFor a l m) ≡ b → holdsUti v (rowAt (ledgerFor a l m) j) ≡ holdsUti v (rowAt l j)
       by true g =
           let at : j ≡ placeFor a l m = eqb-true _ _ g in
-          rw (at) (ap (holdsUti v) row-written ∙ after-holds a (lineDueIn a l m) _ (swapOf m) (nextIdentifier l) (termsFor a l m) (rowAt l (placeFor a l m)) length-shown (row-whole (placeFor a l m) (f .place)) e v h)
+          rw at (ap (holdsUti v) row-written ∙ old-row-holds e v h)
       by false g = ap (holdsUti v) (row-kept j (eqb-false _ _ g))
 
   old-places : isNew a ≡ false → (v : Bytes) → length v ≤ utiSize → placeOf (ledgerFor a l m) v ≡ placeOf l v
@@ -151,13 +162,9 @@ module _ {largest : ℕ} {l m : Bytes} {a : Action} (f : HasPlace largest l m a)
       ap (firstFrom (λ j. holdsUti v (rowAt (ledgerFor a l m) j)) 0) (rows-raised ∙ rw e)
       ∙ first-same (λ j. holdsUti v (rowAt (ledgerFor a l m) j)) (λ j. holdsUti v (rowAt l j)) 0 (rowsInUse l) (λ j g. old-holds e v h j)
 
-  -- NEWT adds a row behind those in use: it holds the message's UTI and no other
-  new-row-holds : isNew a ≡ true → (v : Bytes) → (holdsUti v (rowAt (ledgerFor a l m) (rowsInUse l)) ≡ true) ↔ (swapOf m ≡ v)
-  unfolding rowFor
-  new-row-holds e v =
-      let r : rowAt (ledgerFor a l m) (rowsInUse l) ≡ rowFor a l m = ap (rowAt (ledgerFor a l m)) (sym (new-place e)) ∙ row-written in
-      let is : rowFor a l m ≡ newRow (nextStatus a (swapStatus l (swapOf m))) (swapOf m) (nextIdentifier l) (termsFor a l m) = rw (new-due a l m e, e) in
-      rw (r, is) (new-holds _ (swapOf m) (nextIdentifier l) (termsFor a l m) (f .uti) v)
+  -- NEWT adds its row behind those in use
+  pub new-row-at : isNew a ≡ true → rowAt (ledgerFor a l m) (rowsInUse l) ≡ rowFor a l m
+  new-row-at e = ap (rowAt (ledgerFor a l m)) (sym (new-place e)) ∙ row-written
 
   -- the rows in use before hold what they held
   new-holds-before : isNew a ≡ true → (v : Bytes) (j : ℕ) → j < rowsInUse l → holdsUti v (rowAt (ledgerFor a l m) j) ≡ holdsUti v (rowAt l j)
@@ -192,7 +199,7 @@ module _ {largest : ℕ} {l m : Bytes} {a : Action} (f : HasPlace largest l m a)
   unfolding isKnown
   own-place true e =
       let none : rowsInUse l ≤ placeOf l (swapOf m) = ltb-false _ _ (f .free e) in
-      new-asked e (swapOf m) none ∙ rw (new-row-holds e (swapOf m) .1 refl) (sym (new-place e))
+      new-asked e (swapOf m) none ∙ rw (new-row-at e, new-row-holds e (swapOf m) .1 refl) (sym (new-place e))
   own-place false e = old-places e (swapOf m) (f .uti) ∙ sym (old-place e)
 
   -- its row is the one written
@@ -210,11 +217,7 @@ module _ {largest : ℕ} {l m : Bytes} {a : Action} (f : HasPlace largest l m a)
         differ (row.holds-once (swapOf m) v (swapRow l (swapOf m)) own (subst (λ j. holdsUti v (rowAt l j) ≡ true) at (known-holds l v g)))
 
     other-holds : isNew a ≡ true → holdsUti v (rowAt (ledgerFor a l m) (rowsInUse l)) ≡ false
-    other-holds e = by (holdsUti v (rowAt (ledgerFor a l m) (rowsInUse l))) refl
-      where
-        by : (b : Bool) → holdsUti v (rowAt (ledgerFor a l m) (rowsInUse l)) ≡ b → holdsUti v (rowAt (ledgerFor a l m) (rowsInUse l)) ≡ false
-        by true g = absurd (differ (new-row-holds e v .0 g))
-        by false g = g
+    other-holds e = ap (holdsUti v) (new-row-at e) ∙ not-true-false _ (λ g. differ (new-row-holds e v .0 g))
 
     other-place : (b : Bool) → isNew a ≡ b → placeOf (ledgerFor a l m) v < rowsInUse (ledgerFor a l m) → (placeOf l v < rowsInUse l) × (placeOf (ledgerFor a l m) v ≡ placeOf l v) × (placeOf l v ≡ placeFor a l m → ⊥)
     other-place false e g =
