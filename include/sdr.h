@@ -2,21 +2,23 @@
  * sdr.h: a swap data repository's validation core, for C and C++ hosts.
  *
  * The core judges messages about swaps. It keeps the swaps in a ledger and writes what the public may see of an accepted
- * message as one line of text, the tape line. There are three operations:
+ * message as one line of text, the tape line. There are four operations:
  *
  *   sdr_open     makes a ledger without swaps in a buffer of yours
  *   sdr_submit   judges one message; if it accepts, it changes the ledger and may write a tape line
  *   sdr_status   tells how one swap stands
+ *   sdr_totals   tells how many swaps are live, closed, errored and ported
  *
- * All three work on bytes that you lend for the call. The core has no state of its own, allocates nothing, does no input or
+ * All four work on bytes that you lend for the call. The core has no state of its own, allocates nothing, does no input or
  * output and keeps no pointer. Any bytes get an answer, also broken messages and ledgers. A refusal changes no byte of the
  * ledger or of the tape buffer. The same bytes always get the same answer and leave the same bytes.
  *
  * What you owe the core:
  *   - Each pointer is valid for the length given with it. NULL is allowed exactly where the length is 0; that is an empty
- *     buffer, which is judged like any other. No alignment is asked for.
+ *     buffer, which is judged like any other. No alignment is asked for. The array of sdr_totals has no length: it is an
+ *     array of four uint32_t and never NULL.
  *   - The buffers of a call do not overlap.
- *   - The ledger of sdr_open, and the ledger and the tape buffer of sdr_submit, can be written.
+ *   - The ledger of sdr_open, the ledger and the tape buffer of sdr_submit, and the array of sdr_totals can be written.
  *   - One call at a time per ledger. No other thread reads or writes the buffers of a call while it runs. Calls on different
  *     ledgers, with different tape buffers, may run side by side.
  *   - Between calls the ledger's bytes stay as the core left them, and the ledger is lent at the length it was opened with.
@@ -43,7 +45,7 @@ extern "C" {
 
 /* ---- Sizes, in bytes, and limits (sections 2, 6, 7 and 8) ---- */
 
-#define SDR_HEADER_SIZE 64 /* the ledger's header */
+#define SDR_HEADER_SIZE 80 /* the ledger's header */
 #define SDR_ROW_SIZE 184   /* one swap in the ledger */
 
 /* The shortest ledger has room for one swap. */
@@ -127,21 +129,22 @@ enum sdr_element_code {
  *   sdr_open     1, 2
  *   sdr_submit   3, 4, 5, 6, 7, 8, 9, 10, 11, 19, 12, 13, 14, 15, 16, 17, 18
  *   sdr_status   3, 9, 14
+ *   sdr_totals   3
  *
  * The element is 0 unless a comment below says otherwise.
  */
 
 enum sdr_verdict_code {
     /* any operation */
-    SDR_ACCEPTED = 0, /* done; for sdr_status: answered */
+    SDR_ACCEPTED = 0, /* done; for sdr_status and sdr_totals: answered */
 
     /* sdr_open */
     SDR_LEDGER_SHORT = 1, /* the buffer is shorter than SDR_SHORTEST_LEDGER */
     SDR_CAP_WRONG = 2,    /* a cap is out of bounds, or rounding it as an amount would change it */
 
-    /* sdr_submit and sdr_status */
+    /* sdr_submit, sdr_status and sdr_totals */
     SDR_LEDGER_WRONG = 3, /* the ledger is too short, or its header is none that fits this length: not opened, damaged,
-                             or lent at another length */
+                             or lent at another length. The four totals have to add up to the rows in use */
 
     /* sdr_submit */
     SDR_TAPE_SHORT = 4,           /* the tape buffer is shorter than SDR_LINE_SIZE; judged for PRTO too */
@@ -158,8 +161,8 @@ enum sdr_verdict_code {
                                      10 after the point. Notation 4: 5, none after the point */
     SDR_DATES_DISORDERED = 13,    /* in a full message: expiration before effective date, settlement before expiration,
                                      or reporting before execution */
-    SDR_ROW_WRONG = 14,           /* the swap's row in the ledger is damaged: its status or its identifier is none that can
-                                     be. sdr_status answers this too */
+    SDR_ROW_WRONG = 14,           /* the ledger is damaged: the status or the identifier of the swap's row is none that can
+                                     be, or the total of this status is 0. sdr_status answers this too */
     SDR_NOT_ADMITTED = 15,        /* the swap's status does not allow the action; see the statuses */
     SDR_OTHER_TIME = 16,          /* MODI or REVI gives another execution time than the swap has */
     SDR_LEDGER_FULL = 17,         /* NEWT, and every row is in use */
@@ -194,8 +197,8 @@ enum sdr_status_code {
  * rounding leaves as it is: 250,000,000 is one, 251,000,000 is not.
  *
  * Answers a verdict; what the buffer holds is not looked at. If it accepts, it writes the first SDR_HEADER_SIZE bytes of the
- * buffer and no others: the ledger then has no swaps, and 1 as its next identifier. So opening a ledger that is in use
- * forgets its swaps.
+ * buffer and no others: the ledger then has no swaps, totals of 0, and 1 as its next identifier. So opening a ledger that is
+ * in use forgets its swaps.
  */
 uint32_t sdr_open(uint8_t *ledger, size_t ledger_len, uint64_t cap_cr, uint64_t cap_ir, uint64_t cap_fx, uint64_t cap_eq,
                   uint64_t cap_co);
@@ -214,8 +217,8 @@ uint32_t sdr_open(uint8_t *ledger, size_t ledger_len, uint64_t cap_cr, uint64_t 
  * buffer: PRTO, and a MODI that shows nothing new. That is one whose line would have, from the execution time on, what the
  * ledger has of the swap already; its event and event time do not matter. Any other message writes one line into the first
  * SDR_LINE_SIZE bytes and leaves later ones as they are. Identifiers count the lines of a ledger from 1. In the ledger,
- * acceptance changes the swap's row (NEWT: the next free one) and, in the header, the rows in use (NEWT alone) and the next
- * identifier (with every line). A MODI that shows nothing new changes no byte.
+ * acceptance changes the swap's row (NEWT: the next free one) and, in the header, the rows in use (NEWT alone), the next
+ * identifier (with every line) and the totals (where the status changes). A MODI that shows nothing new changes no byte.
  */
 uint64_t sdr_submit(uint8_t *ledger, size_t ledger_len, uint8_t *tape, size_t tape_len, const uint8_t *message,
                     size_t message_len);
@@ -234,9 +237,19 @@ uint64_t sdr_submit(uint8_t *ledger, size_t ledger_len, uint8_t *tape, size_t ta
  */
 uint64_t sdr_status(const uint8_t *ledger, size_t ledger_len, const uint8_t *uti, size_t uti_len);
 
+/*
+ * Tells how many swaps are live, closed, errored and ported. Reads the header alone, however many rows there are.
+ *
+ * Answers a verdict, SDR_ACCEPTED or SDR_LEDGER_WRONG. Writes the array and nothing else. The total of a status stands at
+ * totals[status - 1], as the ledger holds it: totals[SDR_LIVE - 1] is the number of live swaps. Beside a refusal all four
+ * are 0. While the core alone has changed the ledger since it was opened, each total is the number of rows with that status,
+ * and the four add up to the number of NEWT messages accepted.
+ */
+uint32_t sdr_totals(const uint8_t *ledger, size_t ledger_len, uint32_t totals[4]);
+
 /* ---- Reading an answer ---- */
 
-/* The verdict, one of enum sdr_verdict_code. The answer of sdr_open can be passed too. */
+/* The verdict, one of enum sdr_verdict_code. The answers of sdr_open and sdr_totals can be passed too. */
 static inline unsigned sdr_verdict(uint64_t answer)
 {
     return (unsigned)(answer & 0xff);
@@ -267,7 +280,7 @@ static inline const char *sdr_verdict_text(unsigned verdict)
     case SDR_ACCEPTED: return "accepted";
     case SDR_LEDGER_SHORT: return "ledger buffer too short";
     case SDR_CAP_WRONG: return "cap out of bounds or not a rounded amount";
-    case SDR_LEDGER_WRONG: return "not a ledger of this length";
+    case SDR_LEDGER_WRONG: return "ledger not opened, damaged or of another length";
     case SDR_TAPE_SHORT: return "tape buffer too short";
     case SDR_LAYOUT_WRONG: return "message layout wrong";
     case SDR_ACTION_WRONG: return "action missing or unknown";
@@ -278,7 +291,7 @@ static inline const char *sdr_verdict_text(unsigned verdict)
     case SDR_CONDITIONAL_MISSING: return "conditional element missing";
     case SDR_PRICE_TOO_LONG: return "price or spread too long for its notation";
     case SDR_DATES_DISORDERED: return "dates or times out of order";
-    case SDR_ROW_WRONG: return "row of the swap damaged";
+    case SDR_ROW_WRONG: return "row of the swap or total of its status damaged";
     case SDR_NOT_ADMITTED: return "action not admitted by the swap's status";
     case SDR_OTHER_TIME: return "execution time differs from the swap's";
     case SDR_LEDGER_FULL: return "ledger full";

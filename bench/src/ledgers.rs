@@ -3,8 +3,9 @@
 use crate::messages::sound_new;
 use crate::utis::Shape;
 use compare::layout::{row_range, u32_at, EXECUTION_IN_TERMS, TERMS_IN_ROW, TERMS_SIZE};
-use compare::layout::{Caps, CAPACITY_IN_HEADER, DAY_CAPS, NEXT_IN_HEADER, ROWS_IN_HEADER};
-use compare::layout::{IDENTIFIER_IN_ROW, LENGTH_IN_ROW, STATUS_IN_ROW, UTI_IN_ROW};
+use compare::layout::{total_place, Caps, CAPACITY_IN_HEADER, DAY_CAPS, NEXT_IN_HEADER};
+use compare::layout::{IDENTIFIER_IN_ROW, LENGTH_IN_ROW, ROWS_IN_HEADER, STATUS_IN_ROW};
+use compare::layout::{TOTALS, TOTALS_IN_HEADER, UTI_IN_ROW};
 use compare::random::Random;
 use sdr::{ledger_size, ACCEPTED, CLOSED, ERRORED, LIVE, PORTED};
 use sdr::{HEADER_SIZE, LARGEST_CAPACITY, LINE_SIZE};
@@ -32,12 +33,16 @@ impl Ledger {
     pub fn with_rows(rows: usize, shape: Shape) -> Ledger {
         let mut ledger = Ledger::opened((rows + 1).min(LARGEST_CAPACITY));
         let patterns = patterns();
+        let mut totals = [0_u32; TOTALS];
         for place in 0..rows {
             let row = row_mut(&mut ledger.bytes, place);
             row.copy_from_slice(&patterns[place % PATTERNS]);
             name_row(row, &shape.uti(place), place as u64 + 1);
             row[STATUS_IN_ROW] = status_at(place, rows);
+            totals[total_place(row[STATUS_IN_ROW])] += 1;
         }
+        let totals = totals.map(u32::to_le_bytes);
+        ledger.bytes[TOTALS_IN_HEADER].copy_from_slice(totals.as_flattened());
         ledger.bytes[ROWS_IN_HEADER].copy_from_slice(&(rows as u32).to_le_bytes());
         ledger.bytes[NEXT_IN_HEADER].copy_from_slice(&(rows as u64 + 1).to_le_bytes());
         ledger

@@ -3,7 +3,8 @@
 //! `bench measure [PATTERN]` compares and measures the lines whose name has
 //! the pattern in it, `bench check [PATTERN]` only compares them, on fewer
 //! messages. `bench repeat SIDE PASSES PATTERN` runs one side of the first
-//! such line, for a tool that counts instructions, and tells the submissions.
+//! such line of submissions or of totals, for a tool that counts instructions,
+//! and tells how many there were.
 
 mod days;
 mod due;
@@ -17,6 +18,7 @@ mod mixed;
 mod search;
 mod table;
 mod timing;
+mod totals;
 mod utis;
 
 use std::process::ExitCode;
@@ -55,14 +57,16 @@ fn run(mode: Mode, pattern: &str) -> Result<(), String> {
     let lines = lines_with(pattern);
     let mut searches = search::Plan::all();
     searches.retain(|plan| plan.name().contains(pattern));
+    let totals = totals_with(pattern);
     let day = days::NAME.contains(pattern);
-    if lines.is_empty() && searches.is_empty() && !day {
+    if lines.is_empty() && searches.is_empty() && totals.is_empty() && !day {
         return Err(format!("no line has '{pattern}' in its name"));
     }
     match mode {
         Mode::Measure => {
             lines::tell(&lines)?;
             search::tell(&searches)?;
+            totals::tell(&totals)?;
             if day {
                 days::tell()?;
             }
@@ -70,6 +74,7 @@ fn run(mode: Mode, pattern: &str) -> Result<(), String> {
         Mode::Check => {
             lines::check(&lines)?;
             search::check(&searches)?;
+            totals::check(&totals)?;
             if day {
                 days::check()?;
             }
@@ -84,13 +89,20 @@ fn lines_with(pattern: &str) -> Vec<lines::Plan> {
     lines
 }
 
+fn totals_with(pattern: &str) -> Vec<totals::Plan> {
+    let mut totals = totals::Plan::all();
+    totals.retain(|plan| plan.name().contains(pattern));
+    totals
+}
+
 fn repeat(side: &str, passes: &str, pattern: &str) -> Result<(), String> {
     let passes = passes.parse().map_err(|_| USAGE.to_string())?;
-    let lines = lines_with(pattern);
-    let line = lines
-        .first()
-        .ok_or(format!("no line has '{pattern}' in its name"))?;
-    let submissions = lines::repeat(line, side, passes)?;
-    println!("{submissions}");
+    let (lines, totals) = (lines_with(pattern), totals_with(pattern));
+    let made = match (lines.first(), totals.first()) {
+        (Some(line), _) => lines::repeat(line, side, passes)?,
+        (None, Some(question)) => totals::repeat(question, side, passes)?,
+        (None, None) => return Err(format!("no line has '{pattern}' in its name")),
+    };
+    println!("{made}");
     Ok(())
 }

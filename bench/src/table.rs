@@ -35,6 +35,11 @@ pub fn ratio(one: Figures, other: Figures) -> String {
     format!("{:.2}", one.median / other.median)
 }
 
+/// How many times one median is the other, where it is many times.
+pub fn times(one: Figures, other: Figures) -> String {
+    count((one.median / other.median).round() as usize)
+}
+
 /// A number with commas, with one decimal where it is small.
 fn grouped(number: f64) -> String {
     if number < 100.0 {

@@ -1,6 +1,7 @@
 /*
  * A small host of the core: it opens a ledger with room for two swaps, submits the messages of two swaps' lives, and some that
- * are refused, and prints every answer and every tape line. What it must print is in example.expected.
+ * are refused, and prints every answer, every tape line and now and then the totals. What it must print is in
+ * example.expected.
  *
  * A real host would receive signed messages over some transport, keep ledger and tape on disk, and publish lines after the
  * dissemination delay. Here messages are built in place and lines go to standard output at once.
@@ -158,6 +159,24 @@ static void ask(const char *uti)
         print_answer(answer);
 }
 
+static void print_totals(const uint32_t totals[4])
+{
+    printf("   %lu live, %lu closed, %lu errored, %lu ported\n", (unsigned long)totals[SDR_LIVE - 1],
+           (unsigned long)totals[SDR_CLOSED - 1], (unsigned long)totals[SDR_ERRORED - 1],
+           (unsigned long)totals[SDR_PORTED - 1]);
+}
+
+static void ask_totals(void)
+{
+    uint32_t totals[4];
+    uint32_t answer = sdr_totals(ledger, sizeof ledger, totals);
+
+    if (sdr_verdict(answer) == SDR_ACCEPTED)
+        print_totals(totals);
+    else
+        print_answer(answer);
+}
+
 /* ---- The first swap: every action but PRTO ---- */
 
 static void first_swap_trades(void)
@@ -165,6 +184,7 @@ static void first_swap_trades(void)
     struct report report = full(FIRST, "NEWT", "TRAD", "2025-03-03T14:31:00Z");
 
     ask(FIRST);
+    ask_totals();
     submit(&report); /* the tape shows the rounded amount, 13,000,000 */
     submit(&report); /* 15: the swap is known by now */
 
@@ -179,6 +199,7 @@ static void first_swap_trades(void)
     submit(&report); /* 16: only CORR may mend the execution time */
     submit_cut(&report, 20); /* 5: the header does not fit */
     ask(FIRST);
+    ask_totals();
 }
 
 static void first_swap_ends(void)
@@ -189,6 +210,7 @@ static void first_swap_ends(void)
     report.value[SDR_ACTION_TYPE] = "TERM";
     submit(&report); /* shows the terms that the ledger holds */
     ask(FIRST);
+    ask_totals();
 
     report = full(FIRST, "CORR", NULL, "2025-03-05T10:00:00Z");
     report.value[SDR_EXECUTION_TIMESTAMP] = "2025-03-03T14:30:05Z";
@@ -198,12 +220,14 @@ static void first_swap_ends(void)
     report = brief(FIRST, "EROR", NULL, "2025-03-05T11:00:00Z");
     submit(&report);
     ask(FIRST);
+    ask_totals();
 
     report = full(FIRST, "REVI", NULL, "2025-03-06T09:00:00Z");
     report.value[SDR_EXECUTION_TIMESTAMP] = "2025-03-03T14:30:05Z";
     report.value[SDR_NOTIONAL_AMOUNT] = "500000000";
     submit(&report); /* equal to the cap: no plus sign */
     ask(FIRST);
+    ask_totals();
 }
 
 /* ---- The second swap: a package, sent wrong four times, accepted, given a spread in place of its price, then ported ---- */
@@ -244,6 +268,7 @@ static void second_swap(void)
 
     report = package();
     submit(&report);
+    ask_totals();
 
     report.value[SDR_ACTION_TYPE] = "MODI";
     report.value[SDR_EVENT_TIMESTAMP] = "2025-03-06T11:00:00Z";
@@ -257,6 +282,7 @@ static void second_swap(void)
     report = brief(SECOND, "PRTO", "PTNG", "2025-03-07T09:00:00Z");
     submit(&report); /* accepted without a line */
     ask(SECOND);
+    ask_totals(); /* a swap that is ported still has its row */
 }
 
 /* ---- The ledger is full, and questions that get no status ---- */
@@ -305,8 +331,15 @@ static void odd_submissions(void)
 
 static void odd_questions(void)
 {
+    uint32_t totals[4] = {1, 2, 3, 4};
+
     print_call("status, no UTI", sdr_status(ledger, sizeof ledger, NULL, 0));
     print_call("status, nothing", sdr_status(NULL, 0, NULL, 0));
+    print_call("totals, nothing", sdr_totals(NULL, 0, totals));
+    print_totals(totals); /* zeros in the place of what the array held */
+    print_call("totals, ledger at another length", sdr_totals(ledger, SDR_LEDGER_SIZE(ROWS - 1), totals));
+    print_call("totals", sdr_totals(ledger, sizeof ledger, totals));
+    print_totals(totals);
 }
 
 static void odd_calls(void)

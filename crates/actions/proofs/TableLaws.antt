@@ -1,20 +1,20 @@
 -- Laws of specs/Table.antt: a table that is computed from a rule has at each place what the rule says; what the rows show holds of every action. Assumes nothing.
 use Prim.Native.Nat.{ℕ, zero, suc, _+_, _<_, _≤_}
-use mathlib.Core.Bool.{Bool, true}
+use mathlib.Core.Bool.{Bool, true, false, false≢true}
 use mathlib.Core.Path.{_≡_, refl, sym, ap, _∙_, subst}
 use mathlib.Core.List.{List, [], _∷_, map}
 use native.Mathlib.Nat.{add-zero, zero-add, not-suc-le-zero, le-of-suc-le-suc}
 use native.Mathlib.Omega.{arith}
 use lib.ListN.{length, getD}
-use lib.Dec.{leb, lit<}
+use lib.Dec.{eqb, leb, lit<}
 use borrow.Author.Tests.{ne-eqb, leb-true}
-use Rattle.octets.specs.Choice.{both}
+use Rattle.octets.specs.Choice.{choose, both}
 use Rattle.octets.specs.Search.{allFrom, all}
 use Rattle.octets.proofs.ChoiceLaws.{both-first, both-second}
 use Rattle.octets.proofs.SearchLaws.{all-at}
 use Rattle.actions.specs.declared.Action.{Action}
 use Rattle.actions.specs.declared.Action.the-variants.{Newt, Modi, Corr, Term, Eror, Revi, Prto}
-use Rattle.actions.specs.Statuses.{ported, noStep}
+use Rattle.actions.specs.Statuses.{live, ported, noStep}
 use Rattle.actions.specs.Table.{actionRow, allActions, actionAt}
 use Rattle.actions.specs.Actions.{stepFrom, nextStatus}
 
@@ -75,3 +75,25 @@ none-after (step ∷ steps) s h e =
 pub step-none : (a : Action) (s : ℕ) → ported < s → nextStatus a s ≡ noStep
 unfolding allFrom
 step-none a s h = none-after (actionRow a .steps) s h (every (λ b. within (actionRow b .steps)) refl a)
+
+-- ---- a step leads to a status
+
+-- each step is to a status from live to ported
+abbrev to-statuses : List (ℕ × ℕ) → Bool
+to-statuses [] = true
+to-statuses (step ∷ steps) = both (both (leb live (step .1)) (leb (step .1) ported)) (to-statuses steps)
+
+leads : (steps : List (ℕ × ℕ)) (s : ℕ) → to-statuses steps ≡ true → eqb (stepFrom steps s) noStep ≡ false → (live ≤ stepFrom steps s) × (stepFrom steps s ≤ ported)
+leads [] s e f = absurd (false≢true (sym f))
+leads (step ∷ steps) s e f = by (eqb s (step .0)) f (leads steps s (both-second (both (leb live (step .1)) (leb (step .1) ported)) _ e))
+  where
+    by : (b : Bool) → eqb (choose b (step .1) (stepFrom steps s)) noStep ≡ false → (eqb (stepFrom steps s) noStep ≡ false → (live ≤ stepFrom steps s) × (stepFrom steps s ≤ ported))
+        → (live ≤ choose b (step .1) (stepFrom steps s)) × (choose b (step .1) (stepFrom steps s) ≤ ported)
+    by true g more =
+        let range : both (leb live (step .1)) (leb (step .1) ported) ≡ true = both-first _ (to-statuses steps) e in
+        (leb-true _ _ (both-first (leb live (step .1)) (leb (step .1) ported) range), leb-true _ _ (both-second (leb live (step .1)) (leb (step .1) ported) range))
+    by false g more = more g
+
+pub step-to : (a : Action) (s : ℕ) → eqb (nextStatus a s) noStep ≡ false → (live ≤ nextStatus a s) × (nextStatus a s ≤ ported)
+unfolding allFrom
+step-to a s f = leads (actionRow a .steps) s (every (λ b. to-statuses (actionRow b .steps)) refl a) f

@@ -4,6 +4,8 @@ mod statuses;
 mod table;
 
 pub use matrix::is_pair;
+pub use statuses::CLOSED;
+pub use statuses::ERRORED;
 pub use statuses::LIVE;
 pub use statuses::NO_STEP;
 pub use statuses::PORTED;

@@ -9,6 +9,10 @@ pub const UNKNOWN: u8 = 0;
 
 pub const LIVE: u8 = 1;
 
+pub const CLOSED: u8 = 2;
+
+pub const ERRORED: u8 = 3;
+
 pub const PORTED: u8 = 4;
 
 // Stands for 'no such step exists': no step leads to unknown.

@@ -1,5 +1,7 @@
 pub mod DocumentLaws
 pub mod HeaderLaws
+pub mod Outside
+pub mod TotalsLaws
 pub mod RightHeader
 pub mod NewHeader
 pub mod RowLaws

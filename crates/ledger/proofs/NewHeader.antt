@@ -4,18 +4,21 @@ use mathlib.Core.Bool.{true}
 use mathlib.Core.Path.{_≡_, refl, sym, ap, _∙_}
 use native.Mathlib.Omega.{arith}
 use lib.ListN.{length, drop}
-use lib.Dec.{lit<}
+use lib.Dec.{lit<, lit≤}
 use Rattle.octets.specs.Bytes.{Bytes}
 use Rattle.octets.specs.Part.{splice}
 use Rattle.octets.specs.Fields.{written, Placed}
 use Rattle.octets.proofs.PartLaws.{length-splice}
 use Rattle.octets.proofs.FieldRun.{length-bytes, all-written, placed-at, number-read, front-placed, front-later}
 use Rattle.notional.specs.Masking.{isCap}
+use Rattle.actions.specs.Statuses.{live, closed, errored, ported}
 use Rattle.notional.proofs.MaskingLaws.{cap-largest}
 use Rattle.ledger.specs.declared.header.Caps.{Caps}
 use Rattle.ledger.specs.Layout.{u32, u64, rowsAt, headerSize, rowSize, shortestLedger}
+use Rattle.ledger.specs.Totals.{totalIn, totalsIn, sumOf}
 use Rattle.ledger.specs.Header.{rowsInUse, firstRow, nextIdentifier, capsIn, sizeOfRows, capacityIn, areCaps, capacityFor, headerRight, headerFields, newHeader}
 use Rattle.ledger.proofs.HeaderLaws.{each-cap}
+use Rattle.ledger.proofs.TotalsLaws.{by-status}
 use Rattle.ledger.proofs.RightHeader.{header-right}
 
 module _ (caps : Caps) (capacity : ℕ) where
@@ -79,6 +82,19 @@ module _ (caps : Caps) (capacity : ℕ) (l : Bytes) (room : headerSize ≤ lengt
   unfolding capacityIn
   opened-capacity h = number-read u32 capacity (placed-at _ _ _ opened-placed 9) h
 
+  pub opened-total : (s : ℕ) → live ≤ s → s ≤ ported → totalIn s (splice l rowsAt (newHeader caps capacity)) ≡ 0
+  unfolding totalIn
+  opened-total =
+      by-status (λ s. totalIn s (splice l rowsAt (newHeader caps capacity)) ≡ 0)
+      (number-read u32 0 (placed-at _ _ _ opened-placed 10) (lit< tt))
+      (number-read u32 0 (placed-at _ _ _ opened-placed 11) (lit< tt))
+      (number-read u32 0 (placed-at _ _ _ opened-placed 12) (lit< tt))
+      (number-read u32 0 (placed-at _ _ _ opened-placed 13) (lit< tt))
+
+  opened-sum : sumOf (totalsIn (splice l rowsAt (newHeader caps capacity))) ≡ 0
+  unfolding sumOf totalsIn
+  opened-sum = rw (opened-total live (lit≤ tt) (lit≤ tt), opened-total closed (lit≤ tt) (lit≤ tt), opened-total errored (lit≤ tt) (lit≤ tt), opened-total ported (lit≤ tt) (lit≤ tt))
+
 -- a ledger that opening has written is right
 pub opened-right : (largest : ℕ) (caps : Caps) (l : Bytes) → largest < 256 ^ u32 → shortestLedger ≤ length l → areCaps caps ≡ true → headerRight largest (splice l rowsAt (newHeader caps (capacityFor largest (length l)))) ≡ true
 unfolding capacityFor
@@ -98,4 +114,5 @@ opened-right largest caps l small long ok =
       capacity = opened-capacity caps capacity l room (omega arith) ∙ ap (capacityFor largest) (sym same);
       rows = omega arith;
       caps = ap areCaps (opened-caps caps capacity l room ok) ∙ ok;
+      totals = opened-sum caps capacity l room ∙ sym rows;
     })

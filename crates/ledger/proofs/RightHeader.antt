@@ -11,6 +11,7 @@ use Rattle.octets.specs.Choice.{choose, both}
 use Rattle.octets.proofs.ChoiceLaws.{both-first, both-second}
 use Rattle.values.specs.Run.{within}
 use Rattle.ledger.specs.Layout.{headerSize, rowSize, rowStart, shortestLedger, identifierLimit}
+use Rattle.ledger.specs.Totals.{totalsIn, sumOf}
 use Rattle.ledger.specs.declared.header.Header.{Header}
 use Rattle.ledger.specs.declared.header.HeaderCheck.{HeaderCheck}
 use Rattle.ledger.specs.declared.header.HeaderCheck.the-variants.{Fault, Value}
@@ -27,21 +28,24 @@ right-header largest l e =
     let c₅ = eqb (capacityIn l) (capacityFor largest (length l)) in
     let c₆ = leb (rowsInUse l) (capacityIn l) in
     let c₇ = areCaps (capsIn l) in
-    let r₂ = both-second c₁ (both c₂ (both c₃ (both c₄ (both c₅ (both c₆ c₇))))) e in
-    let r₃ = both-second c₂ (both c₃ (both c₄ (both c₅ (both c₆ c₇)))) r₂ in
-    let r₄ = both-second c₃ (both c₄ (both c₅ (both c₆ c₇))) r₃ in
-    let r₅ = both-second c₄ (both c₅ (both c₆ c₇)) r₄ in
-    let r₆ = both-second c₅ (both c₆ c₇) r₅ in
-    let range : within 1 identifierLimit (nextIdentifier l) ≡ true = both-first c₃ (both c₄ (both c₅ (both c₆ c₇))) r₃ in
+    let c₈ = eqb (sumOf (totalsIn l)) (rowsInUse l) in
+    let r₂ = both-second c₁ (both c₂ (both c₃ (both c₄ (both c₅ (both c₆ (both c₇ c₈)))))) e in
+    let r₃ = both-second c₂ (both c₃ (both c₄ (both c₅ (both c₆ (both c₇ c₈))))) r₂ in
+    let r₄ = both-second c₃ (both c₄ (both c₅ (both c₆ (both c₇ c₈)))) r₃ in
+    let r₅ = both-second c₄ (both c₅ (both c₆ (both c₇ c₈))) r₄ in
+    let r₆ = both-second c₅ (both c₆ (both c₇ c₈)) r₅ in
+    let r₇ = both-second c₆ (both c₇ c₈) r₆ in
+    let range : within 1 identifierLimit (nextIdentifier l) ≡ true = both-first c₃ (both c₄ (both c₅ (both c₆ (both c₇ c₈)))) r₃ in
     record {
-      long = leb-true _ _ (both-first c₁ (both c₂ (both c₃ (both c₄ (both c₅ (both c₆ c₇))))) e);
-      offset = eqb-true _ _ (both-first c₂ (both c₃ (both c₄ (both c₅ (both c₆ c₇)))) r₂);
+      long = leb-true _ _ (both-first c₁ (both c₂ (both c₃ (both c₄ (both c₅ (both c₆ (both c₇ c₈)))))) e);
+      offset = eqb-true _ _ (both-first c₂ (both c₃ (both c₄ (both c₅ (both c₆ (both c₇ c₈))))) r₂);
       positive = leb-true _ _ (both-first (leb 1 (nextIdentifier l)) (leb (nextIdentifier l) identifierLimit) range);
       next = leb-true _ _ (both-second (leb 1 (nextIdentifier l)) (leb (nextIdentifier l) identifierLimit) range);
-      size = eqb-true _ _ (both-first c₄ (both c₅ (both c₆ c₇)) r₄);
-      capacity = eqb-true _ _ (both-first c₅ (both c₆ c₇) r₅);
-      rows = leb-true _ _ (both-first c₆ c₇ r₆);
-      caps = both-second c₆ c₇ r₆;
+      size = eqb-true _ _ (both-first c₄ (both c₅ (both c₆ (both c₇ c₈))) r₄);
+      capacity = eqb-true _ _ (both-first c₅ (both c₆ (both c₇ c₈)) r₅);
+      rows = leb-true _ _ (both-first c₆ (both c₇ c₈) r₆);
+      caps = both-first c₇ c₈ r₇;
+      totals = eqb-true _ _ (both-second c₇ c₈ r₇);
     }
 
 pub header-right : (largest : ℕ) (l : Bytes) → RightHeader largest l → headerRight largest l ≡ true
@@ -56,6 +60,7 @@ header-right largest l h =
       eq-eqb _ _ (h .capacity),
       le-leb _ _ (h .rows),
       h .caps,
+      eq-eqb _ _ (h .totals),
     )
 
 -- there is room for as many rows as the capacity says, and the capacity is no larger than the largest

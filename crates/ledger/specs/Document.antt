@@ -6,10 +6,11 @@ use Rattle.octets.specs.Bytes.{Bytes}
 use Rattle.octets.specs.Fields.{places}
 use Rattle.values.specs.Code.{assetClasses}
 use Rattle.actions.specs.declared.Action.{Action}
+use Rattle.actions.specs.Statuses.{live, closed, errored, ported}
 use Rattle.terms.specs.Terms.{termFields, termsSize}
 use Rattle.ledger.specs.declared.header.Caps.{Caps}
 use Rattle.ledger.specs.Line.{lineFields}
-use Rattle.ledger.specs.Layout.{u8, u32, u64, rowsAt, firstRowAt, nextAt, capAt, rowSizeAt, capacityAt, headerSize, statusAt, lengthAt, utiAt, utiSize, identifierAt, termsAt, tailAt, tailSize, rowSize, shortestLedger, lineSize}
+use Rattle.ledger.specs.Layout.{u8, u32, u64, rowsAt, firstRowAt, nextAt, capAt, rowSizeAt, capacityAt, totalAt, headerSize, statusAt, lengthAt, utiAt, utiSize, identifierAt, termsAt, tailAt, tailSize, rowSize, shortestLedger, lineSize}
 use Rattle.ledger.specs.Header.{classCaps, headerFields}
 use Rattle.ledger.specs.Rows.{rowFields}
 
@@ -27,9 +28,11 @@ termPlaces =
     ∷ (97, 20) ∷ (117, 1) ∷ (118, 3) ∷ (121, 2) ∷ (123, 16) ∷ (139, 1) ∷ (140, 3) ∷ (143, 2)
     ∷ (145, 20) ∷ (165, 1) ∷ (166, 3) ∷ []
 
--- the header: rows in use, offset of the first row, next identifier, five caps, row size, capacity
+-- the header: rows in use, offset of the first row, next identifier, five caps, row size, capacity, four totals
 abbrev pub headerPlaces : List (ℕ × ℕ)
-headerPlaces = (0, 4) ∷ (4, 4) ∷ (8, 8) ∷ (16, 8) ∷ (24, 8) ∷ (32, 8) ∷ (40, 8) ∷ (48, 8) ∷ (56, 4) ∷ (60, 4) ∷ []
+headerPlaces =
+    (0, 4) ∷ (4, 4) ∷ (8, 8) ∷ (16, 8) ∷ (24, 8) ∷ (32, 8) ∷ (40, 8) ∷ (48, 8) ∷ (56, 4) ∷ (60, 4)
+    ∷ (64, 4) ∷ (68, 4) ∷ (72, 4) ∷ (76, 4) ∷ []
 
 -- a row: status, UTI length, UTI, identifier, masked terms, zero
 abbrev pub rowPlaces : List (ℕ × ℕ)
@@ -46,13 +49,14 @@ pub record Document-sizes : Type 0 where
   -- the fields that are read, by their names
   pub headerNames :
       (rowsAt, u32) ∷ (firstRowAt, u32) ∷ (nextAt, u64) ∷ (capAt 0, u64)
-      ∷ (capAt 1, u64) ∷ (capAt 2, u64) ∷ (capAt 3, u64) ∷ (capAt 4, u64) ∷ (rowSizeAt, u32) ∷ (capacityAt, u32) ∷ [] ≡ headerPlaces
+      ∷ (capAt 1, u64) ∷ (capAt 2, u64) ∷ (capAt 3, u64) ∷ (capAt 4, u64) ∷ (rowSizeAt, u32) ∷ (capacityAt, u32)
+      ∷ (totalAt live, u32) ∷ (totalAt closed, u32) ∷ (totalAt errored, u32) ∷ (totalAt ported, u32) ∷ [] ≡ headerPlaces
   pub rowNames :
       (statusAt, u8) ∷ (lengthAt, u8) ∷ (utiAt, utiSize) ∷ (identifierAt, u64) ∷ (termsAt, termsSize) ∷ (tailAt, tailSize) ∷ [] ≡ rowPlaces
   -- the header has a cap for each asset class that code 25 admits, in this order
   pub classes : (caps : Caps) → map (λ c. c .0) (classCaps caps) ≡ assetClasses
   -- the sizes
   pub lineSized : lineSize ≡ 170
-  pub headerSized : headerSize ≡ 64
+  pub headerSized : headerSize ≡ 80
   pub rowSized : rowSize ≡ 184
-  pub shortest : shortestLedger ≡ 248
+  pub shortest : shortestLedger ≡ 264

@@ -15,6 +15,7 @@ use Rattle.octets.specs.Fields.{FieldText, numberField, bytesOf}
 use Rattle.values.specs.Run.{within}
 use Rattle.notional.specs.Masking.{isCap}
 use Rattle.ledger.specs.Layout.{u32, u64, rowsAt, firstRowAt, nextAt, capAt, rowSizeAt, capacityAt, headerSize, rowSize, shortestLedger, identifierLimit}
+use Rattle.ledger.specs.Totals.{totalsIn, sumOf}
 use Rattle.ledger.specs.declared.header.Caps.{Caps}
 use Rattle.ledger.specs.declared.header.Header.{Header}
 use Rattle.ledger.specs.declared.header.HeaderCheck.{HeaderCheck}
@@ -63,7 +64,7 @@ areCaps caps = both (isCap (caps .cr)) (both (isCap (caps .ir)) (both (isCap (ca
 unfoldable pub capacityFor : ℕ → ℕ → ℕ
 capacityFor largest n = min ((n - headerSize) / rowSize) largest
 
--- the ledger is long enough and its header has the layout, no more rows than capacity, and caps
+-- the ledger is long enough and its header has the layout, no more rows than capacity, caps, and totals that add up to the rows in use
 unfoldable pub headerRight : ℕ → Bytes → Bool
 headerRight largest l =
     both (leb shortestLedger (length l))
@@ -71,7 +72,8 @@ headerRight largest l =
     (both (within 1 identifierLimit (nextIdentifier l))
     (both (eqb (sizeOfRows l) rowSize)
     (both (eqb (capacityIn l) (capacityFor largest (length l)))
-    (both (leb (rowsInUse l) (capacityIn l)) (areCaps (capsIn l)))))))
+    (both (leb (rowsInUse l) (capacityIn l))
+    (both (areCaps (capsIn l)) (eqb (sumOf (totalsIn l)) (rowsInUse l))))))))
 
 -- the same, clause by clause
 pub record RightHeader (largest : ℕ) (l : Bytes) : Type 0 where
@@ -83,10 +85,11 @@ pub record RightHeader (largest : ℕ) (l : Bytes) : Type 0 where
   pub capacity : capacityIn l ≡ capacityFor largest (length l)
   pub rows : rowsInUse l ≤ capacityIn l
   pub caps : areCaps (capsIn l) ≡ true
+  pub totals : sumOf (totalsIn l) ≡ rowsInUse l
 
 -- the numbers of a header that a submission uses
 unfoldable pub headerOf : Bytes → Header
-headerOf l = record { rows = rowsInUse l; next = nextIdentifier l; capacity = capacityIn l; caps = capsIn l }
+headerOf l = record { rows = rowsInUse l; next = nextIdentifier l; capacity = capacityIn l; caps = capsIn l; totals = totalsIn l }
 
 -- what the check of a ledger answers: a fault, or the header's numbers
 unfoldable pub checkedHeader : ℕ → Bytes → HeaderCheck
@@ -104,13 +107,17 @@ capFields caps =
     ∷ numberField u64 (caps .co)
     ∷ []
 
--- rows in use, 0; offset of the first row; next identifier, 1; caps; row size; capacity
+-- four totals, 0
+abbrev pub totalFields : List FieldText
+totalFields = numberField u32 0 ∷ numberField u32 0 ∷ numberField u32 0 ∷ numberField u32 0 ∷ []
+
+-- rows in use, 0; offset of the first row; next identifier, 1; caps; row size; capacity; totals
 abbrev pub headerFields : Caps → ℕ → List FieldText
 headerFields caps capacity =
     numberField u32 0
     ∷ numberField u32 headerSize
     ∷ numberField u64 1
-    ∷ (capFields caps ++ (numberField u32 rowSize ∷ numberField u32 capacity ∷ []))
+    ∷ (capFields caps ++ (numberField u32 rowSize ∷ numberField u32 capacity ∷ totalFields))
 
 unfoldable pub newHeader : Caps → ℕ → Bytes
 newHeader caps capacity = bytesOf (headerFields caps capacity)

@@ -1,9 +1,10 @@
 -- Specification, sections 7 and 8: sizes and offsets in bytes. Each offset follows from the field before it; Document.antt has the numbers.
-use Prim.Native.Nat.{ℕ, _+_, _*_}
+use Prim.Native.Nat.{ℕ, _+_, _-_, _*_}
 use mathlib.Core.List.{[]}
 use Rattle.octets.specs.Fields.{sizeOf}
 use Rattle.values.specs.Limits.{utiMost}
 use Rattle.actions.specs.declared.Action.the-variants.{Newt}
+use Rattle.actions.specs.Statuses.{live, ported}
 use Rattle.terms.specs.Terms.{termsSize}
 use Rattle.ledger.specs.Line.{lineFields}
 
@@ -47,8 +48,15 @@ rowSizeAt = capAt 5
 abbrev pub capacityAt : ℕ
 capacityAt = rowSizeAt + u32
 
+-- four totals, by status from live to ported
+abbrev pub totalsAt : ℕ
+totalsAt = capacityAt + u32
+
+abbrev pub totalAt : ℕ → ℕ
+totalAt s = totalsAt + (s - live) * u32
+
 abbrev pub headerSize : ℕ
-headerSize = capacityAt + u32
+headerSize = totalAt ported + u32
 
 -- ---- a row
 

@@ -1,5 +1,6 @@
 pub mod Line
 pub mod Layout
+pub mod Totals
 pub mod Header
 pub mod Rows
 pub mod RowList

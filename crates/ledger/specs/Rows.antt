@@ -16,6 +16,7 @@ use Rattle.actions.specs.declared.Action.{Action}
 use Rattle.actions.specs.Actions.{isFull, isNew}
 use Rattle.actions.specs.Statuses.{unknown}
 use Rattle.ledger.specs.Layout.{u8, u32, u64, rowsAt, nextAt, statusAt, lengthAt, utiAt, utiSize, identifierAt, termsAt, tailSize, rowSize, rowStart}
+use Rattle.ledger.specs.Totals.{totalsAfter}
 use Rattle.ledger.specs.Header.{rowsInUse}
 use Rattle.ledger.specs.declared.search.Swap.{Swap}
 
@@ -125,7 +126,11 @@ unfoldable pub withNext : ℕ → Bytes → Bytes
 withNext next l = splice l nextAt (toLe u64 next)
 
 -- NEWT raises rows in use by one; each line takes the next identifier, which then rises by one
-unfoldable pub headerAfter : Action → Bool → ℕ → ℕ → Bytes → Bytes
-headerAfter a due rows next l =
+unfoldable pub numbersAfter : Action → Bool → ℕ → ℕ → Bytes → Bytes
+numbersAfter a due rows next l =
     let counted : Bytes = choose (isNew a) (withRows (rows + 1) l) l in
     choose due (withNext (next + 1) counted) counted
+
+-- these numbers, and the totals of a swap's status before and after
+unfoldable pub headerAfter : Action → Bool → ℕ → ℕ → ℕ → ℕ → Bytes → Bytes
+headerAfter a due before after rows next l = totalsAfter before after (numbersAfter a due rows next l)

@@ -17,6 +17,9 @@ use crate::layout::ROWS_AT;
 use crate::layout::SHORTEST_LEDGER;
 use crate::layout::U32;
 use crate::layout::U64;
+use crate::totals::Totals;
+use crate::totals::read_totals;
+use crate::totals::sum_of;
 use notional::is_cap;
 use octets::read_at;
 use octets::same;
@@ -36,6 +39,7 @@ pub struct Header {
     pub next: u64,
     pub capacity: u64,
     pub caps: Caps,
+    pub totals: Totals,
 }
 
 // What the check of a ledger answers: a fault, or the header's numbers.
@@ -119,6 +123,7 @@ fn read_numbers(l: &[u8]) -> Header
         next: read_at(l, NEXT_AT, U64),
         capacity: read_at(l, CAPACITY_AT, U32),
         caps: read_caps(l),
+        totals: read_totals(l),
     }
 }
 
@@ -149,7 +154,11 @@ fn is_right(l: &[u8], largest: u32, h: Header) -> bool
         return false;
     }
     let caps = h.caps;
-    are_caps(caps)
+    if !are_caps(caps) {
+        return false;
+    }
+    let totals = h.totals;
+    sum_of(totals) == h.rows
 }
 
 // The numbers of the ledger's header where it is right.

@@ -31,7 +31,15 @@ pub const ROW_SIZE_AT: usize = CO_AT + U64;
 
 pub const CAPACITY_AT: usize = ROW_SIZE_AT + U32;
 
-pub const HEADER_SIZE: usize = CAPACITY_AT + U32;
+// The totals by status, from live to ported.
+pub const TOTALS_AT: usize = CAPACITY_AT + U32;
+
+// How many there are.
+pub const TOTALS: usize = 4;
+
+pub const TOTALS_SIZE: usize = TOTALS * U32;
+
+pub const HEADER_SIZE: usize = TOTALS_AT + TOTALS_SIZE;
 
 // A row.
 pub const STATUS_AT: usize = 0;

@@ -4,8 +4,8 @@ ghost use Prim.Native.Nat.{_≤_};
 ghost use lib.ListN.{length};
 ghost use Rattle.octets.specs.Part.{splice};
 ghost use Rattle.octets.specs.Fields.{written};
-ghost use Rattle.ledger.specs.Layout.{rowsAt, capsAt, headerSize};
-ghost use Rattle.ledger.specs.Header.{capFields, newHeader};
+ghost use Rattle.ledger.specs.Layout.{rowsAt, capsAt, totalsAt, headerSize};
+ghost use Rattle.ledger.specs.Header.{capFields, totalFields, newHeader};
 use crate::header::Caps;
 use crate::layout::CAPACITY_AT;
 use crate::layout::CO_AT;
@@ -19,8 +19,11 @@ use crate::layout::NEXT_AT;
 use crate::layout::ROW_SIZE;
 use crate::layout::ROW_SIZE_AT;
 use crate::layout::ROWS_AT;
+use crate::layout::TOTALS_AT;
+use crate::layout::TOTALS_SIZE;
 use crate::layout::U32;
 use crate::layout::U64;
+use octets::fill_at;
 use octets::write_at;
 
 // Writes the caps.
@@ -35,6 +38,14 @@ fn write_caps(dst: &mut [u8], caps: Caps)
     write_at(dst, CO_AT, U64, caps.co);
 }
 
+// Writes totals of 0.
+fn write_totals(dst: &mut [u8])
+    requires { ⌜ length (now dst) ≡ headerSize ⌝ }
+    ensures { λ _. ⌜ now (dst .exit) ≡ written totalsAt totalFields (now (dst .entry)) ⌝ }
+{
+    fill_at(dst, TOTALS_AT, TOTALS_SIZE, 0);
+}
+
 // Writes the whole header, field by field.
 fn write_numbers(dst: &mut [u8], caps: Caps, capacity: u64)
     requires { ⌜ length (now dst) ≡ headerSize ⌝ }
@@ -46,6 +57,7 @@ fn write_numbers(dst: &mut [u8], caps: Caps, capacity: u64)
     write_caps(dst, caps);
     write_at(dst, ROW_SIZE_AT, U32, ROW_SIZE as u64);
     write_at(dst, CAPACITY_AT, U32, capacity);
+    write_totals(dst);
 }
 
 // Writes the header of a new ledger into its first bytes; later bytes stay.

@@ -6,7 +6,9 @@ ghost use Rattle.octets.specs.Choice.{choose};
 ghost use Rattle.actions.specs.Actions.{isNew};
 ghost use Rattle.terms.specs.Terms.{termsSize};
 ghost use Rattle.ledger.specs.Layout.{u32, utiSize, rowSize, rowStart, headerSize, identifierLimit};
-ghost use Rattle.ledger.specs.Rows.{newRow, withStatus, withIdentifier, withTerms, rowAfter, rowsAfter, withRows, withNext, headerAfter};
+ghost use Rattle.ledger.specs.Rows.{newRow, withStatus, withIdentifier, withTerms, rowAfter, rowsAfter, withRows, withNext, numbersAfter, headerAfter};
+ghost use Rattle.ledger.specs.Totals.{totalIn};
+ghost use Rattle.actions.specs.Statuses.{unknown, live, ported};
 use crate::layout::HEADER_SIZE;
 use crate::layout::IDENTIFIER_AT;
 use crate::layout::LENGTH_AT;
@@ -22,6 +24,7 @@ use crate::layout::U32;
 use crate::layout::U64;
 use crate::layout::UTI_AT;
 use crate::layout::UTI_SIZE;
+use crate::totals::move_totals;
 use actions::Action;
 use actions::is_full;
 use actions::is_new;
@@ -132,11 +135,29 @@ fn raise_next(l: &mut [u8], due: bool, next: u64)
     }
 }
 
-// What a message writes of the header.
-pub fn update_header(l: &mut [u8], a: Action, due: bool, rows: u64, next: u64)
+// Rows in use and the next identifier.
+fn raise_numbers(l: &mut [u8], a: Action, due: bool, rows: u64, next: u64)
     requires { ⌜ (headerSize ≤ length (now l)) × (rows < 256 ^ u32) × (next ≤ identifierLimit) ⌝ }
-    ensures { λ _. ⌜ now (l .exit) ≡ headerAfter a due rows next (now (l .entry)) ⌝ }
+    ensures { λ _. ⌜ now (l .exit) ≡ numbersAfter a due rows next (now (l .entry)) ⌝ }
 {
     raise_rows(l, a, rows);
     raise_next(l, due, next);
+}
+
+// What a message writes of the header: these numbers, and the totals of its swap's status before and after.
+pub fn update_header(
+    l: &mut [u8],
+    a: Action,
+    due: bool,
+    before: u8,
+    after: u8,
+    rows: u64,
+    next: u64,
+)
+    requires { ⌜ (headerSize ≤ length (now l)) × (rows < 256 ^ u32) × (next ≤ identifierLimit) × (before ≤ ported) × (live ≤ after) × (after ≤ ported)
+        × ((before ≡ unknown → ⊥) → 0 < totalIn before (now l)) ⌝ }
+    ensures { λ _. ⌜ now (l .exit) ≡ headerAfter a due before after rows next (now (l .entry)) ⌝ }
+{
+    raise_numbers(l, a, due, rows, next);
+    move_totals(l, before, after);
 }

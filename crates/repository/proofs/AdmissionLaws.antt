@@ -31,6 +31,7 @@ use Rattle.submission.specs.Verdicts.{identifiersSpent}
 use Rattle.submission.specs.Lent.{Lent}
 use Rattle.submission.specs.Submission.{swapOf, actionIn, lineDue, lineDueIn, findsSpent, identifierRule, submissionRules, admittingRules, verdictOn, capOn, maskedTerms, termsFor, placeFor, rowFor, ledgerFor, lineFor, accepted, refused, concluded, submitted}
 use Rattle.submission.proofs.Acceptance.{Admitted, as-admitted, eighteen-last, left-to-18, HasPlace, tape-test, has-place}
+use Rattle.submission.proofs.Lookup.{low, lowers}
 use Rattle.repository.specs.declared.decide.Admission.{Admission}
 use Rattle.repository.specs.declared.decide.Decision.{Decision}
 use Rattle.repository.specs.declared.decide.Decision.the-variants.{Refused, Value}
@@ -127,6 +128,10 @@ writable-admission {limits} {lent} {m} c small =
       rows = omega (arith, f .header .rows, capacity-most (limits .largest) (lent .ledger) (f .header));
       next = f .header .next;
       cap = cap-fits (c .action) (lent .ledger) m (f .header .caps);
+      before = low f small;
+      least = f .step .0;
+      most = f .step .1;
+      counted = λ h. lowers f small h .0;
     }
 
 -- reading has decided: writing cannot fail
@@ -170,8 +175,9 @@ module _ {lent : Lent} {m : Bytes} {s : Admission} (f : Writable lent m s) where
   unfolding headerOf
   rows-are = ap (λ (x : Admission). x .rows) (f .admission)
 
-  pub ledger-is : headerAfter (s .action) (lineDueIn (s .action) l m) (s .rows) (s .next) (splice l (rowStart (s .place)) (rowAfter (s .action) (lineDueIn (s .action) l m) (s .status) (swapOf m) (s .next) (termsFor (s .action) l m) (rowAt l (s .place)))) ≡ ledgerFor (s .action) l m
+  pub ledger-is : headerAfter (s .action) (lineDueIn (s .action) l m) (s .before) (s .status) (s .rows) (s .next) (splice l (rowStart (s .place)) (rowAfter (s .action) (lineDueIn (s .action) l m) (s .status) (swapOf m) (s .next) (termsFor (s .action) l m) (rowAt l (s .place)))) ≡ ledgerFor (s .action) l m
   unfolding ledgerFor rowFor
   ledger-is =
       let status : s .status ≡ nextStatus (s .action) (swapStatus l (swapOf m)) = ap (λ (x : Admission). x .status) (f .admission) in
-      rw (rows-are, next-is, status, ← (f .place))
+      let before : s .before ≡ swapStatus l (swapOf m) = ap (λ (x : Admission). x .before) (f .admission) in
+      rw (rows-are, next-is, before, status, ← (f .place))

@@ -7,11 +7,11 @@ use lib.Dec.{leb}
 use borrow.Author.Tests.{leb-true}
 use Rattle.octets.specs.Bytes.{Bytes}
 use Rattle.octets.specs.Choice.{choose}
-use Rattle.octets.proofs.ChoiceLaws.{both-second, both-false, not-not}
+use Rattle.octets.proofs.ChoiceLaws.{both-first, both-second, both-false, not-not}
 use Rattle.values.specs.Run.{within}
 use Rattle.actions.specs.Statuses.{live, ported}
 use Rattle.ledger.specs.Layout.{identifierLimit}
-use Rattle.ledger.specs.Header.{nextIdentifier, headerRight}
+use Rattle.ledger.specs.Header.{nextIdentifier, headerRight, headerOf}
 use Rattle.ledger.specs.Rows.{isKnown, swapStatus, swapIdentifier, swapIn}
 use Rattle.ledger.proofs.RightHeader.{right-header}
 use Rattle.submission.specs.Opening.{Limits}
@@ -38,16 +38,16 @@ submission-small limits lent m =
     least false h = omega arith
 
 -- a right row has an identifier below the next one
-swap-small : (largest : ℕ) (l u : Bytes) → headerRight largest l ≡ true → hasWrongRow (nextIdentifier l) (swapIn l u) ≡ false → swapIdentifier l u ≤ identifierLimit
-unfolding swapIdentifier hasWrongRow rowRight
+swap-small : (largest : ℕ) (l u : Bytes) → headerRight largest l ≡ true → hasWrongRow (headerOf l) (swapIn l u) ≡ false → swapIdentifier l u ≤ identifierLimit
+unfolding swapIdentifier hasWrongRow rowRight headerOf
 swap-small largest l u h w = by (isKnown l u) refl
   where
     by : (b : Bool) → isKnown l u ≡ b → swapIdentifier l u ≤ identifierLimit
     by false k = rw k (omega arith)
     by true k =
         let i : ℕ = swapIdentifier l u in
-        let right : rowRight (nextIdentifier l) (swapIn l u) ≡ true = not-not _ (both-false (isKnown l u) _ w k) in
-        let range : within 1 (nextIdentifier l - 1) i ≡ true = both-second (within live ported (swapStatus l u)) (within 1 (nextIdentifier l - 1) i) right in
+        let right : rowRight (headerOf l) (swapIn l u) ≡ true = not-not _ (both-false (isKnown l u) _ w k) in
+        let range : within 1 (nextIdentifier l - 1) i ≡ true = both-first (within 1 (nextIdentifier l - 1) i) _ (both-second (within live ported (swapStatus l u)) _ right) in
         omega (arith, leb-true i (nextIdentifier l - 1) (both-second (leb 1 i) (leb i (nextIdentifier l - 1)) range), right-header largest l h .next)
 
 -- the status question answers the swap's last identifier or 0

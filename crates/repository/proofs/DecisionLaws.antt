@@ -24,7 +24,7 @@ use Rattle.rules.proofs.VerdictLaws.{differ}
 use Rattle.ledger.specs.Layout.{rowStart}
 use Rattle.ledger.specs.declared.header.Header.{Header}
 use Rattle.ledger.specs.declared.search.Swap.{Swap}
-use Rattle.ledger.specs.Header.{rowsInUse, nextIdentifier, headerOf}
+use Rattle.ledger.specs.Header.{rowsInUse, headerOf}
 use Rattle.ledger.specs.Rows.{rowAt, storedTime, swapTime, swapIn}
 use Rattle.submission.specs.Verdicts.{ledgerWrong, rowWrong, identifiersSpent}
 use Rattle.submission.specs.Opening.{Limits}
@@ -87,6 +87,5 @@ rows-read l h r =
     (rows, omega (arith, rows, r .1))
 
 -- rule 14 with what was read
-pub wrong-read : (l u : Bytes) (h : Header) (s : Swap) (b : Bool) → h ≡ headerOf l → s ≡ swapIn l u → b ≡ hasWrongRow (h .next) s → hasWrongRow (nextIdentifier l) (swapIn l u) ≡ b
-unfolding headerOf
+pub wrong-read : (l u : Bytes) (h : Header) (s : Swap) (b : Bool) → h ≡ headerOf l → s ≡ swapIn l u → b ≡ hasWrongRow h s → hasWrongRow (headerOf l) (swapIn l u) ≡ b
 wrong-read l u h s b e g w = sym (w ∙ rw (e, g))

@@ -9,11 +9,13 @@ use Rattle.actions.specs.declared.Action.{Action}
 use Rattle.actions.specs.declared.Checked.{Checked}
 use Rattle.actions.specs.declared.Checked.the-variants as checked
 use Rattle.actions.specs.Actions.{isFull, nextStatus}
+use Rattle.actions.specs.Statuses.{unknown, live, ported}
 use Rattle.notional.specs.Masking.{largestCap}
 use Rattle.rules.specs.Findings.{firstBroken, fromRule}
 use Rattle.ledger.specs.Layout.{u32, utiSize, rowStart, lineSize, identifierLimit}
 use Rattle.ledger.specs.declared.header.Header.{Header}
 use Rattle.ledger.specs.declared.search.Swap.{Swap}
+use Rattle.ledger.specs.Totals.{totalIn}
 use Rattle.ledger.specs.Header.{nextIdentifier, capsIn, headerOf}
 use Rattle.ledger.specs.Rows.{swapIn}
 use Rattle.submission.specs.Opening.{Limits}
@@ -31,7 +33,16 @@ use Rattle.repository.specs.Answers.{refusalAnswer}
 -- an admission: what 18 and the writes use, from what is known of the swap, the header's numbers and the cap that applies
 abbrev pub admissionFor : Action → Header → Swap → ℕ → Admission
 admissionFor a h s cap =
-    record { action = a; place = s .place; status = nextStatus a (s .status); previous = s .identifier; rows = h .rows; next = h .next; cap = cap }
+    record {
+      action = a;
+      place = s .place;
+      before = s .status;
+      status = nextStatus a (s .status);
+      previous = s .identifier;
+      rows = h .rows;
+      next = h .next;
+      cap = cap;
+    }
 
 -- with what a ledger has; messages that are not full have no cap
 abbrev pub admissionIn : Action → Bytes → Bytes → Admission
@@ -94,3 +105,8 @@ pub record Writable (lent : Lent) (m : Bytes) (s : Admission) : Type 0 where
   pub rows : s .rows < 256 ^ u32
   pub next : s .next ≤ identifierLimit
   pub cap : s .cap ≤ largestCap
+  -- the total of the status before can be lowered, unless the swap is new
+  pub before : s .before ≤ ported
+  pub least : live ≤ s .status
+  pub most : s .status ≤ ported
+  pub counted : (s .before ≡ unknown → ⊥) → 0 < totalIn (s .before) (lent .ledger)

@@ -34,7 +34,7 @@ fn publish(
     }
 }
 
-// Writes the line, the row and the header's two numbers.
+// Writes the line, the row and the header's numbers.
 pub fn apply(l: &mut [u8], tape: &mut [u8], m: &[u8], s: Admission, due: bool, terms: &[u8])
     requires { ⌜ Writable (lentOf (now l) (now tape)) (now m) s
         × (due ≡ lineDueIn (s .action) (now l) (now m)) × (now terms ≡ termsFor (s .action) (now l) (now m)) × (length (now terms) ≡ termsSize) ⌝ }
@@ -43,5 +43,5 @@ pub fn apply(l: &mut [u8], tape: &mut [u8], m: &[u8], s: Admission, due: bool, t
     let a = s.action;
     publish(tape, a, due, s.next, s.previous, m, terms);
     store_row(l, s.place, a, due, s.status, element(m, UTI), s.next, terms);
-    update_header(l, a, due, s.rows, s.next);
+    update_header(l, a, due, s.before, s.status, s.rows, s.next);
 }

@@ -37,16 +37,18 @@ use ledger::cap_for;
 use ledger::find_swap;
 use ledger::read_header;
 use ledger::time_of;
+use ledger::total_of;
 use message::element;
 use octets::same;
 use rules::Judged;
 use rules::judge;
 
-// What 18 and the writes use of a message that every other rule admits: its action, the place of the swap's row, the swap's next status and last
-// identifier, the header's numbers, and the cap that applies.
+// What 18 and the writes use of a message that every other rule admits: its action, the place of the swap's row, the swap's status before and after
+// it, its last identifier, the header's numbers, and the cap that applies.
 pub struct Admission {
     pub action: Action,
     pub place: usize,
+    pub before: u8,
     pub status: u8,
     pub previous: u64,
     pub rows: u64,
@@ -71,8 +73,8 @@ fn cap_of(caps: Caps, a: Action, m: &[u8]) -> u64
 }
 
 // Whether the swap has a row, and that row is wrong (14).
-pub fn has_wrong_row(next: u64, swap: Swap) -> bool
-    ensures { λ r. ⌜ r ≡ hasWrongRow next swap ⌝ }
+pub fn has_wrong_row(header: Header, swap: Swap) -> bool
+    ensures { λ r. ⌜ r ≡ hasWrongRow header swap ⌝ }
 {
     if !swap.known {
         return false;
@@ -86,7 +88,11 @@ pub fn has_wrong_row(next: u64, swap: Swap) -> bool
     if swap.identifier < 1 {
         return true;
     }
-    next <= swap.identifier
+    if header.next <= swap.identifier {
+        return true;
+    }
+    let totals = header.totals;
+    total_of(totals, swap.status) < 1
 }
 
 // Whether a message has to repeat the stored execution time and has another one (16).
@@ -165,7 +171,7 @@ fn decide_row(
 ) -> Decision
     ensures { λ r. ⌜ r ≡ decidedFrom rowWrong header swap (now (time .entry)) (now (m .entry)) (admissionFor action header swap cap) ⌝ }
 {
-    if has_wrong_row(header.next, swap) {
+    if has_wrong_row(header, swap) {
         return Decision::Refused(ROW_WRONG, 0);
     }
     decide_step(action, header, swap, time, cap, m)
@@ -189,6 +195,7 @@ fn decide_step(
     let s = Admission {
         action,
         place: swap.place,
+        before: swap.status,
         status,
         previous: swap.identifier,
         rows: header.rows,

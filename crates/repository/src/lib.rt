@@ -1,4 +1,5 @@
-// The three operations (specification, section 10): open a ledger, submit a message, ask the status of a swap. A C host reaches them through include/sdr.h.
+// The operations (specification, section 10): open a ledger, submit a message, ask the status of a swap, ask the totals. A C host reaches them through
+// include/sdr.h.
 mod answer;
 mod apply;
 mod conclude;
@@ -15,10 +16,12 @@ ghost use Rattle.submission.specs.Opening.{documentLimits, opened};
 ghost use Rattle.submission.specs.Lent.{lentOf};
 ghost use Rattle.submission.specs.Submission.{submitted};
 ghost use Rattle.submission.specs.Status.{asked};
+ghost use Rattle.submission.specs.Totals.{askedTotals};
 ghost use Rattle.repository.specs.Answers.{capsOf, submissionAnswer, questionAnswer, answerIn};
-ghost use Rattle.repository.specs.Demands.{Opening-demands, Submission-demands, Question-demands};
+ghost use Rattle.repository.specs.Demands.{Opening-demands, Submission-demands, Question-demands, Totals-demands};
 use answer::pack;
 use ledger::Caps;
+use ledger::TOTALS;
 use operations::status;
 
 // The specification's limits: the longest message in bytes, and the largest capacity in rows.
@@ -72,4 +75,14 @@ pub extern "C" fn sdr_status(ledger: &[u8], uti: &[u8]) -> u64
 {
     let a = status(ledger, uti, LARGEST_CAPACITY);
     pack(a.verdict, a.element, a.status, a.identifier)
+}
+
+// Asks how many swaps are live, closed, errored and ported; answers the verdict. Beside a refusal the totals are 0.
+#[no_mangle]
+pub extern "C" fn sdr_totals(ledger: &[u8], totals: &mut [u32; TOTALS]) -> u32
+    ensures { λ r. ⌜ r ≡ askedTotals documentLimits (now (ledger .entry)) .verdict ⌝ }
+    ensures { λ _. ⌜ now (totals .exit) ≡ askedTotals documentLimits (now (ledger .entry)) .totals ⌝ }
+    ensures { λ _. ⌜ Totals-demands ⌝ }
+{
+    operations::totals(ledger, totals, LARGEST_CAPACITY) as u32
 }

@@ -1,10 +1,11 @@
-// The three operations, with the limits as parameters. Reading decides, then writing cannot fail.
+// The operations, with the limits as parameters. Reading decides, then writing cannot fail.
 ghost use Prim.Native.Nat.{ℕ};
 ghost use mathlib.Core.Path.{_≡_};
 ghost use Rattle.submission.specs.Opening.{opened};
 ghost use Rattle.submission.specs.Lent.{lentOf};
 ghost use Rattle.submission.specs.Submission.{submitted};
 ghost use Rattle.submission.specs.Status.{asked};
+ghost use Rattle.submission.specs.Totals.{askedTotals};
 ghost use Rattle.repository.specs.Answers.{limitsOf, submissionAnswer, questionAnswer};
 ghost use Rattle.repository.specs.Decision.{decisionAnswer};
 use crate::answer::Answer;
@@ -22,9 +23,11 @@ use elements::has_form;
 use ledger::Caps;
 use ledger::HeaderCheck;
 use ledger::SHORTEST_LEDGER;
+use ledger::TOTALS;
 use ledger::are_caps;
 use ledger::capacity_for;
 use ledger::find_swap;
+use ledger::in_order;
 use ledger::read_header;
 use ledger::write_header;
 use rules::FORM_BROKEN;
@@ -78,7 +81,7 @@ pub fn status(l: &[u8], uti: &[u8], largest: u32) -> Answer
         return refusal(FORM_BROKEN, UTI);
     }
     let swap = find_swap(l, header.rows as usize, uti);
-    if has_wrong_row(header.next, swap) {
+    if has_wrong_row(header, swap) {
         return refusal(ROW_WRONG, 0);
     }
     Answer {
@@ -87,4 +90,18 @@ pub fn status(l: &[u8], uti: &[u8], largest: u32) -> Answer
         status: swap.status,
         identifier: swap.identifier,
     }
+}
+
+// The totals by status as they are stored, or a verdict and zeros.
+pub fn totals(l: &[u8], dst: &mut [u32; TOTALS], largest: u32) -> u8
+    ensures { λ r. ⌜ ((longest : ℕ) → r ≡ askedTotals (limitsOf longest largest) (now (l .entry)) .verdict) ⌝ }
+    ensures { λ _. ⌜ ((longest : ℕ) → now (dst .exit) ≡ askedTotals (limitsOf longest largest) (now (l .entry)) .totals) ⌝ }
+{
+    let HeaderCheck::Value(header) = read_header(l, largest) else {
+        *dst = [0; TOTALS];
+        return LEDGER_WRONG;
+    };
+    let stored = header.totals;
+    *dst = in_order(stored);
+    0
 }

@@ -1,5 +1,5 @@
 -- What the verdict 0 tells of ledger, tape buffer and message. Assumes nothing.
-use Prim.Native.Nat.{ℕ, suc, _<_, _≤_}
+use Prim.Native.Nat.{ℕ, suc, _-_, _<_, _≤_}
 use mathlib.Core.Bool.{Bool, true, false, not, false≢true}
 use mathlib.Core.Path.{_≡_, refl, sym, ap, _∙_, subst}
 use mathlib.Core.List.{[], _∷_, _++_}
@@ -17,6 +17,7 @@ use Rattle.actions.specs.declared.Checked.{Checked}
 use Rattle.actions.specs.declared.Checked.the-variants.{Fault, Value}
 use Rattle.actions.specs.Actions.{isNew, nextStatus}
 use Rattle.actions.specs.Statuses.{live, ported, unknown, noStep}
+use Rattle.actions.proofs.TableLaws.{step-to}
 use Rattle.actions.proofs.KindLaws.{old-unknown, new-unknown}
 use Rattle.elements.specs.Codes.{uti}
 use Rattle.message.specs.Values.{isThere}
@@ -29,8 +30,10 @@ use Rattle.rules.specs.Findings.{passed, broken, test, firstBroken, findingOf, 
 use Rattle.rules.specs.Rules.{rulesFor, rulesOf, atFault}
 use Rattle.rules.proofs.FindingLaws.{not-broken, unused, distinct, all-passed, is-passed, none-broken, passed-before, passed-from, passed-front, passed-then, lowest-passed}
 use Rattle.ledger.specs.Layout.{utiSize, lineSize}
+use Rattle.ledger.specs.Totals.{totalIn, totalsIn, totalOf}
 use Rattle.ledger.specs.Header.{rowsInUse, nextIdentifier, capacityIn, headerRight, RightHeader, headerOf}
-use Rattle.ledger.specs.Rows.{placeOf, isKnown, swapStatus, swapTime, swapIn}
+use Rattle.ledger.specs.Rows.{placeOf, isKnown, swapStatus, swapIdentifier, swapTime, swapIn}
+use Rattle.ledger.proofs.TotalsLaws.{total-of}
 use Rattle.ledger.proofs.RightHeader.{right-header}
 use Rattle.submission.specs.Verdicts.{ledgerWrong, tapeShort, rowWrong, notAdmitted, otherTime, ledgerFull, identifiersSpent}
 use Rattle.submission.specs.Opening.{Limits}
@@ -136,6 +139,10 @@ pub record HasPlace (largest : ℕ) (l m : Bytes) (a : Action) : Type 0 where
   pub known : isNew a ≡ false → isKnown l (swapOf m) ≡ true
   -- the row lies within the capacity
   pub place : placeFor a l m < capacityIn l
+  -- a swap that has a row is counted with its status; the step leads to one of the four
+  pub status : isNew a ≡ false → (live ≤ swapStatus l (swapOf m)) × (swapStatus l (swapOf m) ≤ ported)
+  pub counted : isNew a ≡ false → 0 < totalIn (swapStatus l (swapOf m)) l
+  pub step : (live ≤ nextStatus a (swapStatus l (swapOf m))) × (nextStatus a (swapStatus l (swapOf m)) ≤ ported)
 
 module _ {limits : Limits} {lent : Lent} {m : Bytes} (c : Admitted limits lent m) where
   abbrev l : Bytes
@@ -156,8 +163,8 @@ module _ {limits : Limits} {lent : Lent} {m : Bytes} (c : Admitted limits lent m
   unfolding submissionRules rulesFor rulesOf swapRules findingOf beforeRule
   tape-test = not-broken _ (rule-passed tapeShort)
 
-  pub row-test : hasWrongRow (nextIdentifier l) (swapIn l (swapOf m)) ≡ false
-  unfolding submissionRules rulesFor rulesOf swapRules findingOf beforeRule headerOf
+  pub row-test : hasWrongRow (headerOf l) (swapIn l (swapOf m)) ≡ false
+  unfolding submissionRules rulesFor rulesOf swapRules findingOf beforeRule
   row-test = not-broken _ (rule-passed rowWrong)
 
   pub status-test : eqb (nextStatus a (swapStatus l (swapOf m))) noStep ≡ false
@@ -187,18 +194,29 @@ module _ {limits : Limits} {lent : Lent} {m : Bytes} (c : Admitted limits lent m
       let f : both (isThere uti m) (not (hasForm uti (swapOf m))) ≡ false = lowest-passed (atFault Formed a m) (rule-passed formBroken) uti (lit≤ tt) (lit≤ tt) in
       not-not _ (both-false (isThere uti m) (not (hasForm uti (swapOf m))) f there)
 
-  pub row-right : isKnown l (swapOf m) ≡ true → rowRight (nextIdentifier l) (swapIn l (swapOf m)) ≡ true
+  pub row-right : isKnown l (swapOf m) ≡ true → rowRight (headerOf l) (swapIn l (swapOf m)) ≡ true
   unfolding hasWrongRow
   row-right k = not-not _ (both-false (isKnown l (swapOf m)) _ row-test k)
 
-  is-free : (b : Bool) → isKnown l (swapOf m) ≡ b → isNew a ≡ true → isKnown l (swapOf m) ≡ false
+  -- the status of a known swap is one of the four, and its total counts it
+  known-status : isKnown l (swapOf m) ≡ true → (live ≤ swapStatus l (swapOf m)) × (swapStatus l (swapOf m) ≤ ported)
   unfolding rowRight
-  is-free false k e = k
-  is-free true k e =
+  known-status k =
       let status : ℕ = swapStatus l (swapOf m) in
-      let none : status ≡ unknown = new-unknown a _ e status-test in
       let range : within live ported status ≡ true = both-first (within live ported status) _ (row-right k) in
-      absurd (omega (arith, none, leb-true live status (both-first (leb live status) (leb status ported) range)))
+      (leb-true live status (both-first (leb live status) (leb status ported) range), leb-true status ported (both-second (leb live status) (leb status ported) range))
+
+  known-counted : isKnown l (swapOf m) ≡ true → 0 < totalIn (swapStatus l (swapOf m)) l
+  unfolding rowRight headerOf
+  known-counted k =
+      let s : ℕ = swapStatus l (swapOf m) in
+      let given : Bool = within 1 (nextIdentifier l - 1) (swapIdentifier l (swapOf m)) in
+      let some : leb 1 (totalOf (totalsIn l) s) ≡ true = both-second given _ (both-second (within live ported s) (both given (leb 1 (totalOf (totalsIn l) s))) (row-right k)) in
+      omega (arith, leb-true 1 (totalOf (totalsIn l) s) some, total-of l s (known-status k .0) (known-status k .1))
+
+  is-free : (b : Bool) → isKnown l (swapOf m) ≡ b → isNew a ≡ true → isKnown l (swapOf m) ≡ false
+  is-free false k e = k
+  is-free true k e = absurd (omega (arith, new-unknown a _ e status-test, known-status k .0))
 
   place-fits : (b : Bool) → isNew a ≡ b → rowsInUse l ≤ capacityIn l → placeFor a l m < capacityIn l
   unfolding placeFor isKnown
@@ -216,6 +234,9 @@ module _ {limits : Limits} {lent : Lent} {m : Bytes} (c : Admitted limits lent m
         free = is-free (isKnown l (swapOf m)) refl;
         known = step-known l (swapOf m) a status-test;
         place = place-fits (isNew a) refl (h .rows);
+        status = λ e. known-status (step-known l (swapOf m) a status-test e);
+        counted = λ e. known-counted (step-known l (swapOf m) a status-test e);
+        step = step-to a (swapStatus l (swapOf m)) status-test;
       }
 
 -- ---- what a submission then is

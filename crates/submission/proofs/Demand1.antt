@@ -25,14 +25,15 @@ use Rattle.rules.specs.Rules.{finding, atFault, rulesFor, rulesOf, numberOf}
 use Rattle.rules.proofs.FindingLaws.{unused, not-verdict, numbered, has-number, namedBy, names-none, broken-first, lowest-broken}
 use Rattle.rules.proofs.VerdictLaws.{namingNumbers, action-at-fault}
 use Rattle.ledger.specs.Layout.{shortestLedger}
-use Rattle.ledger.specs.Header.{nextIdentifier, areCaps, capacityFor, headerRight, newHeader}
+use Rattle.ledger.specs.Header.{areCaps, capacityFor, headerRight, headerOf, newHeader}
 use Rattle.ledger.specs.Rows.{swapIn}
-use Rattle.submission.specs.Verdicts.{ledgerShort, capWrong, ledgerWrong, rowWrong, openingNumbers, submissionNumbers}
+use Rattle.submission.specs.Verdicts.{ledgerShort, capWrong, ledgerWrong, rowWrong, openingNumbers, submissionNumbers, totalsNumbers}
 use Rattle.submission.specs.Opening.{Limits, openingRules, openingVerdict, opened}
 use Rattle.submission.specs.Lent.{Lent}
 use Rattle.submission.specs.Submission.{actionIn, hasWrongRow, swapRules, submissionRules, rulesOn, verdictOn, Submitted, submitted}
 use Rattle.submission.specs.Status.{statusRules, answered, asked}
-use Rattle.submission.specs.Demand1.{NamesLowest, Names, Refusal, Submission-answers, Opening-answers, Question, Question-answers}
+use Rattle.submission.specs.Totals.{noTotals, totalsBeside, totalsRules, askedTotals}
+use Rattle.submission.specs.Demand1.{NamesLowest, Names, Refusal, Submission-answers, Opening-answers, Question, Question-answers, Totals-answers}
 use Rattle.submission.proofs.Acceptance.{numbers-differ, accepted-answer}
 use Rattle.submission.proofs.Outcome.{when-refused, when-accepted, verdict-is}
 
@@ -156,10 +157,23 @@ opening-answers limits caps l z = by (ltb (length l) shortestLedger) (not (areCa
 
 pub question-answers : Question-answers
 unfolding asked statusRules firstBroken isOneOf
-question-answers limits l u = by (not (headerRight (limits .largest) l)) (hasForm uti u) (hasWrongRow (nextIdentifier l) (swapIn l u))
+question-answers limits l u = by (not (headerRight (limits .largest) l)) (hasForm uti u) (hasWrongRow (headerOf l) (swapIn l u))
   where
     by : (a b c : Bool) → Question (answered (firstBroken (test ledgerWrong a ∷ naming formBroken (choose b passed (broken uti)) ∷ test rowWrong c ∷ [])) l u)
     by true b c = record { named = λ e. absurd (omega arith); nothing = λ n. refl; number = λ n. refl; refused = λ n. (refl, refl) }
     by false false c = record { named = λ e. refl; nothing = λ n. absurd (n refl); number = λ n. refl; refused = λ n. (refl, refl) }
     by false true true = record { named = λ e. absurd (omega arith); nothing = λ n. refl; number = λ n. refl; refused = λ n. (refl, refl) }
     by false true false = record { named = λ e. absurd (omega arith); nothing = λ n. refl; number = λ n. absurd (n refl); refused = λ n. absurd (n refl) }
+
+-- ---- the totals question
+
+pub totals-answers : Totals-answers
+unfolding askedTotals totalsRules firstBroken isOneOf
+totals-answers limits l z = by (headerRight (limits .largest) l) z
+  where
+    verdict : Bool → ℕ
+    verdict b = firstBroken (test ledgerWrong (not b) ∷ []) .0
+
+    by : (b : Bool) → (verdict b ≡ 0 → ⊥) → (isOneOf totalsNumbers (verdict b) ≡ true) × (totalsBeside (verdict b) l .totals ≡ noTotals)
+    by true n = absurd (n refl)
+    by false n = (refl, refl)

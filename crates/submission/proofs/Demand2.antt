@@ -31,10 +31,12 @@ use Rattle.rules.specs.Findings.{passed, broken, Rule, test, naming, firstBroke
 use Rattle.rules.specs.Rules.{rulesFor, rulesOf, verdict}
 use Rattle.rules.proofs.FindingLaws.{broken-first, first-broken, none-broken, passed-then}
 use Rattle.rules.proofs.VerdictLaws as message
-use Rattle.ledger.specs.Layout.{u32, u64, rowsAt, nextAt, lengthAt, identifierAt, headerSize, rowSize, rowStart, shortestLedger, lineSize}
+use Rattle.ledger.specs.Layout.{u32, u64, rowsAt, nextAt, lengthAt, identifierAt, totalAt, headerSize, rowSize, rowStart, shortestLedger, lineSize}
+use Rattle.ledger.specs.Totals.{totalsIn, totalOf}
 use Rattle.ledger.specs.Header.{rowsInUse, nextIdentifier, capsIn, areCaps, capacityFor, headerRight, headerOf}
 use Rattle.ledger.specs.Rows.{rowAt, statusOf, identifierOf, storedTerms, storedTime, isKnown, swapRow, swapStatus, swapIdentifier, swapTime, swapIn, newRow, rowAfter}
 use Rattle.ledger.specs.Line.{lineFields, line}
+use Rattle.ledger.proofs.TotalsLaws.{total-of}
 use Rattle.ledger.proofs.NewHeader as new
 use Rattle.ledger.proofs.RightHeader.{header-right, rows-fit}
 use Rattle.ledger.proofs.RowAfterLaws.{row-placed}
@@ -45,11 +47,12 @@ use Rattle.submission.specs.Verdicts.{ledgerShort, capWrong, ledgerWrong
 use Rattle.submission.specs.Opening.{Limits, openingRules, openingVerdict, opened}
 use Rattle.submission.specs.Lent.{Lent}
 use Rattle.submission.specs.Status.{statusRules, asked}
+use Rattle.submission.specs.Totals.{totalsRules, askedTotals}
 use Rattle.submission.specs.Submission.{submitted, swapOf, actionIn, lineDueIn, rowRight, hasWrongRow, isNotAdmitted, hasOtherTime, findsFull, findsSpent, swapRules, afterRules, submissionRules, rulesOn, verdictOn, maskedTerms, termsFor, placeFor, rowFor, ledgerFor, lineFor, tapeFor}
-use Rattle.submission.specs.Demand2.{Verdict-exactly, Checking-order, RightRow, RulesAccept, Accepted-exactly, Quiet-modification, Outside, LedgerWritten, TapeWritten, Acceptance-writes, OpeningExactly, Opening-exactly, Opening-passes, Opening-writes, QuestionExactly, Question-exactly}
+use Rattle.submission.specs.Demand2.{Verdict-exactly, Checking-order, RightRow, RulesAccept, Accepted-exactly, Quiet-modification, Outside, MovesTotal, LedgerWritten, TapeWritten, Acceptance-writes, OpeningExactly, Opening-exactly, Opening-passes, Opening-writes, QuestionExactly, Question-exactly, TotalsExactly, Totals-exactly}
 use Rattle.submission.proofs.LineDueLaws.{line-due-exactly, old-unless-due, new-due, same-terms}
 use Rattle.submission.proofs.Acceptance.{numbers-differ, Admitted, as-admitted, Accepted, accepted-answer, step-known, HasPlace, has-place, tape-room, row-right as passed-row, status-test, time-test, message-passes, room-test}
-use Rattle.submission.proofs.Lookup.{row-whole, length-shown, length-after, ledger-length, new-place, old-place, ledger-stays, rows-raised, next-raised, row-written}
+use Rattle.submission.proofs.Lookup.{row-whole, length-shown, length-after, ledger-length, new-place, old-place, ledger-stays, rows-raised, next-raised, low, high, totals-moved, row-written}
 use Rattle.submission.proofs.Outcome.{when-accepted, verdict-is}
 use Rattle.submission.proofs.Opened.{long-enough, start-is, start-right}
 use Rattle.submission.proofs.Demand1.{element-is}
@@ -76,27 +79,36 @@ checking-order limits a lent m = refl
 -- ---- acceptance in words
 
 -- a row that 14 lets pass, both ways
-right-row : (next : ℕ) (l u : Bytes) → isKnown l u ≡ true → rowRight next (swapIn l u) ≡ true → RightRow next (swapRow l u)
-unfolding rowRight swapStatus swapIdentifier
-right-row next l u known right =
-    let r : Bytes = swapRow l u in
-    let e : both (within live ported (statusOf r)) (within 1 (next - 1) (identifierOf r)) ≡ true = rw known at right in
-    let status : within live ported (statusOf r) ≡ true = both-first (within live ported (statusOf r)) (within 1 (next - 1) (identifierOf r)) e in
-    let identifier : within 1 (next - 1) (identifierOf r) ≡ true = both-second (within live ported (statusOf r)) (within 1 (next - 1) (identifierOf r)) e in
-    let given : 1 ≤ identifierOf r = leb-true _ _ (both-first (leb 1 (identifierOf r)) (leb (identifierOf r) (next - 1)) identifier) in
-    let most : identifierOf r ≤ next - 1 = leb-true _ _ (both-second (leb 1 (identifierOf r)) (leb (identifierOf r) (next - 1)) identifier) in
-    record {
-      least = leb-true _ _ (both-first (leb live (statusOf r)) (leb (statusOf r) ported) status);
-      most = leb-true _ _ (both-second (leb live (statusOf r)) (leb (statusOf r) ported) status);
-      given = given;
-      before = omega arith;
-    }
+module _ (l u : Bytes) (known : isKnown l u ≡ true) where
+  abbrev r : Bytes
+  r = swapRow l u
 
-row-right : (next : ℕ) (l u : Bytes) → isKnown l u ≡ true → RightRow next (swapRow l u) → rowRight next (swapIn l u) ≡ true
-unfolding rowRight swapStatus swapIdentifier
-row-right next l u known h =
-    let most : identifierOf (swapRow l u) ≤ next - 1 = omega (arith, h .given, h .before) in
-    rw (known, le-leb _ _ (h .least), le-leb _ _ (h .most), le-leb _ _ (h .given), le-leb _ _ most)
+  abbrev isGiven : Bool
+  isGiven = within 1 (nextIdentifier l - 1) (identifierOf (swapRow l u))
+
+  abbrev isCounted : Bool
+  isCounted = leb 1 (totalOf (totalsIn l) (statusOf (swapRow l u)))
+
+  right-row : rowRight (headerOf l) (swapIn l u) ≡ true → RightRow l (swapRow l u)
+  unfolding rowRight swapStatus swapIdentifier headerOf
+  right-row right =
+      let e : both (within live ported (statusOf r)) (both isGiven isCounted) ≡ true = rw known at right in
+      let status : within live ported (statusOf r) ≡ true = both-first (within live ported (statusOf r)) (both isGiven isCounted) e in
+      let rest : both isGiven isCounted ≡ true = both-second (within live ported (statusOf r)) (both isGiven isCounted) e in
+      let identifier : within 1 (nextIdentifier l - 1) (identifierOf r) ≡ true = both-first isGiven isCounted rest in
+      let counted : 1 ≤ totalOf (totalsIn l) (statusOf r) = leb-true _ _ (both-second isGiven isCounted rest) in
+      let least : live ≤ statusOf r = leb-true _ _ (both-first (leb live (statusOf r)) (leb (statusOf r) ported) status) in
+      let most : statusOf r ≤ ported = leb-true _ _ (both-second (leb live (statusOf r)) (leb (statusOf r) ported) status) in
+      let given : 1 ≤ identifierOf r = leb-true _ _ (both-first (leb 1 (identifierOf r)) (leb (identifierOf r) (nextIdentifier l - 1)) identifier) in
+      let below : identifierOf r ≤ nextIdentifier l - 1 = leb-true _ _ (both-second (leb 1 (identifierOf r)) (leb (identifierOf r) (nextIdentifier l - 1)) identifier) in
+      record { least = least; most = most; given = given; before = omega arith; counted = omega (arith, total-of l (statusOf r) least most) }
+
+  row-right : RightRow l (swapRow l u) → rowRight (headerOf l) (swapIn l u) ≡ true
+  unfolding rowRight swapStatus swapIdentifier headerOf
+  row-right h =
+      let below : identifierOf (swapRow l u) ≤ nextIdentifier l - 1 = omega (arith, h .given, h .before) in
+      let counted : 1 ≤ totalOf (totalsIn l) (statusOf r) = omega (arith, h .counted, total-of l (statusOf r) (h .least) (h .most)) in
+      rw (known, le-leb _ _ (h .least), le-leb _ _ (h .most), le-leb _ _ (h .given), le-leb _ _ below, le-leb _ _ counted)
 
 -- a test that counts only where another one holds
 not-where : (b t : Bool) → (b ≡ true → t ≡ false) → both b t ≡ false
@@ -124,7 +136,7 @@ module _ (limits : Limits) (lent : Lent) (m : Bytes) where
         header = has-place c .header;
         tape = tape-room c;
         message = rw (c .reads) (none-broken (rulesFor (Value a) (limits .longest) m) (message-passes c));
-        row = λ k. right-row (nextIdentifier l) l (swapOf m) k (passed-row c k);
+        row = λ k. right-row l (swapOf m) k (passed-row c k);
         step = eqb-false _ _ (status-test c);
         time = λ k. same-true _ _ (not-not _ (both-false (repeatsTime a) _ (time-test c) k)) ∙ known-time l (swapOf m) a (status-test c) k;
         room = λ k. eqb-false _ _ (both-false (isNew a) _ (room-test c) k);
@@ -132,9 +144,9 @@ module _ (limits : Limits) (lent : Lent) (m : Bytes) where
       }
 
   module _ (s : RulesAccept limits lent m) where
-    right-found : hasWrongRow (nextIdentifier l) (swapIn l (swapOf m)) ≡ false
+    right-found : hasWrongRow (headerOf l) (swapIn l (swapOf m)) ≡ false
     unfolding hasWrongRow
-    right-found = not-where (isKnown l (swapOf m)) _ (λ k. ap not (row-right (nextIdentifier l) l (swapOf m) k (s .row k)))
+    right-found = not-where (isKnown l (swapOf m)) _ (λ k. ap not (row-right l (swapOf m) k (s .row k)))
 
     admitted : isNotAdmitted (s .action) (swapIn l (swapOf m)) ≡ false
     unfolding isNotAdmitted
@@ -162,7 +174,7 @@ module _ (limits : Limits) (lent : Lent) (m : Bytes) where
     front-passed = rw (header-right (limits .largest) l (s .header), le-ltb (length (lent .buffers .tape)) lineSize (s .tape))
 
     swap-passed : firstBroken (afterRules (Value (s .action)) l m) ≡ (0, 0)
-    unfolding swapRules firstBroken headerOf
+    unfolding swapRules firstBroken
     swap-passed = rw (right-found, admitted, same-time, room-found, identifier-found)
 
     all-passed-on : verdictOn limits lent m ≡ (0, 0)
@@ -231,11 +243,12 @@ module _ {largest : ℕ} {l m : Bytes} {a : Action} (f : HasPlace largest l m a)
   fits : rowStart (placeFor a l m) + length (rowFor a l m) ≤ length l
   fits = omega (arith, length-after f small, rows-fit largest l (f .header), f .place)
 
-  bytes-kept : (i : ℕ) → Outside (rowStart (placeFor a l m)) rowSize i → (isNew a ≡ true → Outside rowsAt u32 i) → (lineDueIn a l m ≡ true → Outside nextAt u64 i) → getD (ledgerFor a l m) i 0 ≡ getD l i 0
+  bytes-kept : (i : ℕ) → Outside (rowStart (placeFor a l m)) rowSize i → (isNew a ≡ true → Outside rowsAt u32 i) → (lineDueIn a l m ≡ true → Outside nextAt u64 i)
+      → ((s : ℕ) → MovesTotal a l m s → Outside (totalAt s) u32 i) → getD (ledgerFor a l m) i 0 ≡ getD l i 0
   unfolding ledgerFor
-  bytes-kept i outside p q =
+  bytes-kept i outside p q t =
       let same : length (splice l (rowStart (placeFor a l m)) (rowFor a l m)) ≡ length l = length-splice l (rowFor a l m) (rowStart (placeFor a l m)) fits in
-      raised-byte a (lineDueIn a l m) (rowsInUse l) (nextIdentifier l) (splice l (rowStart (placeFor a l m)) (rowFor a l m)) (omega (arith, same, f .header .long)) i p q
+      raised-byte a (lineDueIn a l m) (swapStatus l (swapOf m)) (nextStatus a (swapStatus l (swapOf m))) (rowsInUse l) (nextIdentifier l) (splice l (rowStart (placeFor a l m)) (rowFor a l m)) (omega (arith, same, f .header .long)) (low f small) (high f small) i p q (λ s least most moves. t s (least, most, moves)) (f .step .0)
       ∙ byte-apart l (rowFor a l m) (rowStart (placeFor a l m)) i fits (λ b. omega (arith, length-after f small, outside b))
 
   ledger-written : LedgerWritten a l m (ledgerFor a l m)
@@ -249,6 +262,7 @@ module _ {largest : ℕ} {l m : Bytes} {a : Action} (f : HasPlace largest l m a)
         tail = λ e. rw row-is (after-tail a (lineDueIn a l m) _ (swapOf m) (nextIdentifier l) (termsFor a l m) old shown whole e);
         rows = rows-raised f small;
         next = next-raised f small;
+        totals = totals-moved f small;
         long = ledger-length f small;
         others = bytes-kept;
       }
@@ -338,9 +352,9 @@ opening-writes limits caps l v =
 pub question-exactly : Question-exactly
 unfolding asked statusRules firstBroken
 question-exactly limits l u =
-    (by (headerRight (limits .largest) l) refl (hasForm uti u) refl (hasWrongRow (nextIdentifier l) (swapIn l u)) refl, λ v. rw (eq-eqb _ 0 v) (refl, refl))
+    (by (headerRight (limits .largest) l) refl (hasForm uti u) refl (hasWrongRow (headerOf l) (swapIn l u)) refl, λ v. rw (eq-eqb _ 0 v) (refl, refl))
   where
-    by : (a : Bool) → headerRight (limits .largest) l ≡ a → (b : Bool) → hasForm uti u ≡ b → (c : Bool) → hasWrongRow (nextIdentifier l) (swapIn l u) ≡ c
+    by : (a : Bool) → headerRight (limits .largest) l ≡ a → (b : Bool) → hasForm uti u ≡ b → (c : Bool) → hasWrongRow (headerOf l) (swapIn l u) ≡ c
         → QuestionExactly limits l u (firstBroken (test ledgerWrong (not a) ∷ naming formBroken (choose b passed (broken uti)) ∷ test rowWrong c ∷ []) .0)
     by false e b f c g =
         record {
@@ -370,3 +384,13 @@ question-exactly limits l u =
           row = (λ z. absurd (omega arith), λ p. absurd (false≢true (sym g ∙ p .2)));
           accepted = (λ z. (e, f, g), λ p. refl);
         }
+
+-- ---- the totals question
+
+pub totals-exactly : Totals-exactly
+unfolding askedTotals totalsRules firstBroken totalsIn
+totals-exactly limits l = (by (headerRight (limits .largest) l) refl, λ v. rw (eq-eqb _ 0 v))
+  where
+    by : (b : Bool) → headerRight (limits .largest) l ≡ b → TotalsExactly limits l (firstBroken (test ledgerWrong (not b) ∷ []) .0)
+    by true e = record { ledger = (λ z. absurd (omega arith), λ p. absurd (false≢true (sym p ∙ e))); accepted = (λ z. e, λ p. refl) }
+    by false e = record { ledger = (λ z. e, λ p. refl); accepted = (λ z. absurd (omega arith), λ p. absurd (false≢true (sym e ∙ p))) }

@@ -2,6 +2,7 @@ pub mod LineDueLaws
 pub mod Acceptance
 pub mod Lookup
 pub mod RowsAfter
+pub mod RightAfter
 pub mod Outcome
 pub mod PublishedTape
 pub mod Pairs
@@ -10,3 +11,4 @@ pub mod Demand1
 pub mod Demand2
 pub mod Demand3
 pub mod Counting
+pub mod SinceOpening

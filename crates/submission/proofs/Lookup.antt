@@ -8,7 +8,7 @@ use native.Mathlib.Nat.{zero-add}
 use native.Mathlib.Omega.{arith}
 use lib.ListN.{length}
 use lib.Dec.{eqb, ltb}
-use borrow.Author.Tests.{eqb-true, eqb-false, ltb-true, ltb-false, lt-ltb}
+use borrow.Author.Tests.{eqb-true, eqb-false, eq-eqb, ltb-true, ltb-false, lt-ltb}
 use Rattle.octets.specs.Bytes.{Bytes}
 use Rattle.octets.specs.Choice.{choose}
 use Rattle.octets.specs.Search.{firstFrom}
@@ -20,16 +20,20 @@ use Rattle.terms.specs.Terms.{termsSize}
 use Rattle.terms.proofs.TermLaws.{length-terms}
 use Rattle.actions.specs.declared.Action.{Action}
 use Rattle.actions.specs.Actions.{isFull, isNew, nextStatus}
+use Rattle.actions.specs.Statuses.{unknown, live, ported}
 use Rattle.actions.proofs.KindLaws.{old-unless-full}
 use Rattle.ledger.specs.declared.header.Caps.{Caps}
 use Rattle.ledger.specs.Layout.{u32, utiSize, termsAt, headerSize, rowSize, rowStart}
+use Rattle.ledger.specs.Totals.{totalIn, adds, totalsAfter}
 use Rattle.ledger.specs.Header.{rowsInUse, nextIdentifier, capacityIn, capsIn}
-use Rattle.ledger.specs.Rows.{rowAt, statusOf, storedTerms, holdsUti, placeIn, placeOf, isKnown, swapRow, swapStatus, newRow, headerAfter}
+use Rattle.ledger.specs.Rows.{rowAt, statusOf, storedTerms, holdsUti, placeIn, placeOf, isKnown, swapRow, swapStatus, newRow, numbersAfter, headerAfter}
 use Rattle.ledger.proofs.RowLaws as row
 use Rattle.ledger.proofs.RightHeader.{rows-fit, capacity-most}
 use Rattle.ledger.proofs.RowAfterLaws.{length-row-after}
 use Rattle.ledger.proofs.RowFields.{new-holds, after-holds}
-use Rattle.ledger.proofs.ReadBack.{row-length, row-rows, row-next, row-caps, row-same, row-other, raised-caps, raised-row, raised-length, raised-rows, raised-next}
+use Rattle.ledger.proofs.ReadBack.{row-length, row-rows, row-next, row-caps, row-fixed, row-total, row-same, row-other, raised-caps, raised-row, raised-length, raised-fixed, raised-rows, raised-next, raised-total}
+use Rattle.ledger.proofs.Outside.{fixedIn}
+use Rattle.ledger.proofs.TotalsLaws.{total-most, two-most}
 use Rattle.submission.specs.Submission.{swapOf, lineDueIn, capOn, maskedTerms, termsFor, placeFor, rowFor, ledgerFor}
 use Rattle.submission.proofs.LineDueLaws.{old-unless-due, new-due}
 use Rattle.submission.proofs.Acceptance.{HasPlace}
@@ -74,6 +78,28 @@ module _ {largest : ℕ} {l m : Bytes} {a : Action} (f : HasPlace largest l m a)
   unfolding rowFor
   length-after = length-row-after a (lineDueIn a l m) _ (swapOf m) (nextIdentifier l) (termsFor a l m) (rowAt l (placeFor a l m)) length-shown (row-whole (placeFor a l m) (f .place))
 
+  -- the swap's status, and the one that the message leads to
+  abbrev before : ℕ
+  before = swapStatus l (swapOf m)
+
+  abbrev after : ℕ
+  after = nextStatus a (swapStatus l (swapOf m))
+
+  -- a new swap has no status
+  pub new-status : isNew a ≡ true → swapStatus l (swapOf m) ≡ unknown
+  unfolding swapStatus
+  new-status e = rw (f .free e)
+
+  pub low : swapStatus l (swapOf m) ≤ ported
+  low = by (isNew a) refl
+    where
+      by : (b : Bool) → isNew a ≡ b → swapStatus l (swapOf m) ≤ ported
+      by true e = omega (arith, new-status e)
+      by false e = f .status e .1
+
+  pub high : nextStatus a (swapStatus l (swapOf m)) ≤ ported
+  high = f .step .1
+
   abbrev stored : Bytes
   stored = splice l (rowStart (placeFor a l m)) (rowFor a l m)
 
@@ -86,7 +112,7 @@ module _ {largest : ℕ} {l m : Bytes} {a : Action} (f : HasPlace largest l m a)
   -- nothing grows or shrinks
   pub ledger-length : length (ledgerFor a l m) ≡ length l
   unfolding ledgerFor
-  ledger-length = raised-length a (lineDueIn a l m) _ _ _ header-there ∙ row-length l (rowFor a l m) (placeFor a l m) length-after here
+  ledger-length = raised-length a (lineDueIn a l m) before after _ _ _ header-there low high ∙ row-length l (rowFor a l m) (placeFor a l m) length-after here
 
   -- NEWT takes the next row
   pub new-place : isNew a ≡ true → placeFor a l m ≡ rowsInUse l
@@ -100,26 +126,63 @@ module _ {largest : ℕ} {l m : Bytes} {a : Action} (f : HasPlace largest l m a)
   pub rows-raised : rowsInUse (ledgerFor a l m) ≡ choose (isNew a) (rowsInUse l + 1) (rowsInUse l)
   unfolding ledgerFor
   rows-raised =
-      raised-rows a (lineDueIn a l m) (rowsInUse l) (nextIdentifier l) stored header-there (λ e. omega (arith, f .place, new-place e, capacity-most largest l (f .header)))
+      raised-rows a (lineDueIn a l m) before after (rowsInUse l) (nextIdentifier l) stored header-there low high (λ e. omega (arith, f .place, new-place e, capacity-most largest l (f .header)))
       ∙ ap (choose (isNew a) (rowsInUse l + 1)) (row-rows l (rowFor a l m) (placeFor a l m) length-after here)
 
   pub next-raised : nextIdentifier (ledgerFor a l m) ≡ choose (lineDueIn a l m) (nextIdentifier l + 1) (nextIdentifier l)
   unfolding ledgerFor
   next-raised =
-      raised-next a (lineDueIn a l m) (rowsInUse l) (nextIdentifier l) stored header-there (omega (arith, f .header .next))
+      raised-next a (lineDueIn a l m) before after (rowsInUse l) (nextIdentifier l) stored header-there low high (omega (arith, f .header .next))
       ∙ ap (choose (lineDueIn a l m) (nextIdentifier l + 1)) (row-next l (rowFor a l m) (placeFor a l m) length-after here)
 
   pub caps-kept : capsIn (ledgerFor a l m) ≡ capsIn l
   unfolding ledgerFor
-  caps-kept = raised-caps a (lineDueIn a l m) (rowsInUse l) (nextIdentifier l) stored header-there ∙ row-caps l (rowFor a l m) (placeFor a l m) length-after here
+  caps-kept = raised-caps a (lineDueIn a l m) before after (rowsInUse l) (nextIdentifier l) stored header-there low high ∙ row-caps l (rowFor a l m) (placeFor a l m) length-after here
+
+  pub fixed-kept : fixedIn (ledgerFor a l m) ≡ fixedIn l
+  unfolding ledgerFor
+  fixed-kept = raised-fixed a (lineDueIn a l m) before after (rowsInUse l) (nextIdentifier l) stored header-there low high ∙ row-fixed l (rowFor a l m) (placeFor a l m) length-after here
 
   pub row-written : rowAt (ledgerFor a l m) (placeFor a l m) ≡ rowFor a l m
   unfolding ledgerFor
-  row-written = raised-row a (lineDueIn a l m) (rowsInUse l) (nextIdentifier l) stored header-there (placeFor a l m) ∙ row-same l (rowFor a l m) (placeFor a l m) length-after here
+  row-written = raised-row a (lineDueIn a l m) before after (rowsInUse l) (nextIdentifier l) stored header-there low high (placeFor a l m) ∙ row-same l (rowFor a l m) (placeFor a l m) length-after here
 
   pub row-kept : (j : ℕ) → (j ≡ placeFor a l m → ⊥) → rowAt (ledgerFor a l m) j ≡ rowAt l j
   unfolding ledgerFor
-  row-kept j differ = raised-row a (lineDueIn a l m) (rowsInUse l) (nextIdentifier l) stored header-there j ∙ row-other l (rowFor a l m) (placeFor a l m) length-after here j differ
+  row-kept j differ = raised-row a (lineDueIn a l m) before after (rowsInUse l) (nextIdentifier l) stored header-there low high j ∙ row-other l (rowFor a l m) (placeFor a l m) length-after here j differ
+
+  -- ---- the totals
+
+  -- no total is larger than the rows in use
+  most : (s : ℕ) → live ≤ s → s ≤ ported → totalIn s l ≤ rowsInUse l
+  most s p q = omega (arith, total-most l s p q, f .header .totals)
+
+  -- the old status's total can be lowered, and the new one's raised
+  pub lowers : (swapStatus l (swapOf m) ≡ unknown → ⊥) → (0 < totalIn (swapStatus l (swapOf m)) l) × (totalIn (swapStatus l (swapOf m)) l < 256 ^ u32)
+  lowers known = by (isNew a) refl
+    where
+      by : (b : Bool) → isNew a ≡ b → (0 < totalIn (swapStatus l (swapOf m)) l) × (totalIn (swapStatus l (swapOf m)) l < 256 ^ u32)
+      by true e = absurd (known (new-status e))
+      by false e =
+          let s = f .status e in
+          (f .counted e, omega (arith, most before (s .0) (s .1), f .header .rows, capacity-most largest l (f .header)))
+
+  raises : (swapStatus l (swapOf m) ≡ nextStatus a (swapStatus l (swapOf m)) → ⊥) → totalIn (nextStatus a (swapStatus l (swapOf m))) l + 1 < 256 ^ u32
+  raises differ = by (isNew a) refl
+    where
+      by : (b : Bool) → isNew a ≡ b → totalIn (nextStatus a (swapStatus l (swapOf m))) l + 1 < 256 ^ u32
+      by true e = omega (arith, most after (f .step .0) (f .step .1), f .place, new-place e, capacity-most largest l (f .header))
+      by false e =
+          let s = f .status e in
+          omega (arith, two-most l before (s .0) (s .1) after (f .step .0) (f .step .1) differ, f .counted e, f .header .totals, f .header .rows, capacity-most largest l (f .header))
+
+  -- each total loses the swap where it had that status and gains it where it has it now
+  pub totals-moved : (s : ℕ) → live ≤ s → s ≤ ported → totalIn s (ledgerFor a l m) + adds (swapStatus l (swapOf m)) s ≡ totalIn s l + adds (nextStatus a (swapStatus l (swapOf m))) s
+  unfolding ledgerFor
+  totals-moved s p q =
+      let kept : (t : ℕ) → t ≤ ported → totalIn t stored ≡ totalIn t l = row-total l (rowFor a l m) (placeFor a l m) length-after here in
+      raised-total a (lineDueIn a l m) before after (rowsInUse l) (nextIdentifier l) stored header-there low high (f .step .0) (λ h. rw (kept before low) (lowers h)) (λ h. omega (arith, kept after high, raises h)) s p q
+      ∙ ap (λ n. n + adds after s) (kept s q)
 
   -- where no line is due and the status stays, nothing moves
   row-stays : lineDueIn a l m ≡ false → nextStatus a (swapStatus l (swapOf m)) ≡ swapStatus l (swapOf m) → rowFor a l m ≡ rowAt l (placeFor a l m)
@@ -130,8 +193,8 @@ module _ {largest : ℕ} {l m : Bytes} {a : Action} (f : HasPlace largest l m a)
       rw (due, status) (row.status-own (rowAt l (placeFor a l m)) (row-whole (placeFor a l m) (f .place)))
 
   pub ledger-stays : lineDueIn a l m ≡ false → nextStatus a (swapStatus l (swapOf m)) ≡ swapStatus l (swapOf m) → ledgerFor a l m ≡ l
-  unfolding ledgerFor headerAfter
-  ledger-stays due step = rw (due, old-unless-due a l m due, row-stays due step) (row.row-own l (placeFor a l m) (omega (arith, here)))
+  unfolding ledgerFor headerAfter numbersAfter totalsAfter
+  ledger-stays due step = rw (due, old-unless-due a l m due, row-stays due step, step, eq-eqb (swapStatus l (swapOf m)) _ refl) (row.row-own l (placeFor a l m) (omega (arith, here)))
 
   -- ---- which UTIs the rows hold
 

@@ -1,5 +1,5 @@
 -- A ledger that opening answered with 0. Assumes nothing.
-use Prim.Native.Nat.{_^_, _<_, _≤_}
+use Prim.Native.Nat.{ℕ, _^_, _<_, _≤_}
 use mathlib.Core.Bool.{true}
 use mathlib.Core.Path.{_≡_, refl, ap, _∙_}
 use mathlib.Core.List.{[]}
@@ -9,12 +9,15 @@ use borrow.Author.Tests.{ltb-true, ltb-false, eq-eqb}
 use Rattle.octets.specs.Bytes.{Bytes}
 use Rattle.octets.specs.Part.{splice}
 use Rattle.octets.proofs.ChoiceLaws.{not-not}
+use Rattle.actions.specs.Statuses.{live, ported}
 use Rattle.rules.specs.Findings.{findingOf, AllPassed}
 use Rattle.rules.proofs.FindingLaws.{not-broken, unused, distinct, all-passed, is-passed}
 use Rattle.ledger.specs.declared.header.Caps.{Caps}
 use Rattle.ledger.specs.Layout.{u32, rowsAt, headerSize, shortestLedger}
+use Rattle.ledger.specs.Totals.{totalIn}
 use Rattle.ledger.specs.Header.{rowsInUse, nextIdentifier, capsIn, areCaps, capacityFor, headerRight, newHeader}
 use Rattle.ledger.specs.Rows.{placeOf, isKnown}
+use Rattle.ledger.specs.RowList.{listFrom, rowsOf}
 use Rattle.ledger.proofs.NewHeader as header
 use Rattle.submission.specs.Verdicts.{ledgerShort, capWrong}
 use Rattle.submission.specs.Opening.{Limits, openingRules, openingVerdict, opened}
@@ -49,11 +52,18 @@ module _ (limits : Limits) (caps : Caps) (l : Bytes) (v : opened limits caps l .
   pub start-rows : rowsInUse (start limits caps l) ≡ 0
   start-rows = ap rowsInUse start-is ∙ header.opened-rows caps _ l room
 
+  pub start-empty : rowsOf (start limits caps l) ≡ []
+  unfolding rowsOf listFrom
+  start-empty = rw start-rows
+
   pub start-next : nextIdentifier (start limits caps l) ≡ 1
   start-next = ap nextIdentifier start-is ∙ header.opened-next caps _ l room
 
   pub start-caps : capsIn (start limits caps l) ≡ caps
   start-caps = ap capsIn start-is ∙ header.opened-caps caps _ l room caps-right
+
+  pub start-total : (s : ℕ) → live ≤ s → s ≤ ported → totalIn s (start limits caps l) ≡ 0
+  start-total s p q = ap (totalIn s) start-is ∙ header.opened-total caps _ l room s p q
 
   -- it passes the check of the header: no history starts with verdict 3
   pub start-right : limits .largest < 256 ^ u32 → headerRight (limits .largest) (start limits caps l) ≡ true

@@ -19,6 +19,7 @@ use Rattle.actions.specs.Statuses.{live}
 use Rattle.ledger.specs.Layout.{u32, utiSize}
 use Rattle.ledger.specs.Header.{rowsInUse, nextIdentifier}
 use Rattle.ledger.specs.Rows.{rowAt, statusOf, holdsUti, placeIn, placeOf, isKnown, swapRow, swapStatus}
+use Rattle.ledger.specs.Totals.{adds}
 use Rattle.ledger.specs.RowList.{listFrom, rowsOf, count, countOf}
 use Rattle.ledger.proofs.RowLaws.{holds-same}
 use Rattle.ledger.proofs.RowFields.{after-status}
@@ -77,7 +78,7 @@ module _ {largest : ℕ} {l m : Bytes} {a : Action} (f : HasPlace largest l m a)
       by false = sym (ne-eqb 0 s (λ z. omega arith))
 
   -- the swap is no longer counted with the status that it had, and is counted with its next one
-  pub moved : (s : ℕ) → live ≤ s → countOf s (rowsOf (ledgerFor a l m)) + choose (eqb (swapStatus l (swapOf m)) s) 1 0 ≡ countOf s (rowsOf l) + choose (eqb (nextStatus a (swapStatus l (swapOf m))) s) 1 0
+  pub moved : (s : ℕ) → live ≤ s → countOf s (rowsOf (ledgerFor a l m)) + adds (swapStatus l (swapOf m)) s ≡ countOf s (rowsOf l) + adds (nextStatus a (swapStatus l (swapOf m))) s
   moved s h = rw (rows-after, ← had s h, ← row-status) (count-put (holdsUti (swapOf m)) (λ r. eqb (statusOf r) s) (rowsOf l) (rowFor a l m))
 
   pub rows-more : length (rowsOf (ledgerFor a l m)) ≡ choose (isNew a) 1 0 + length (rowsOf l)

@@ -13,11 +13,12 @@ use Rattle.rules.specs.Verdicts.{actionWrong, formBroken}
 use Rattle.rules.specs.Findings.{isOneOf, LowestAtFault}
 use Rattle.rules.specs.Rules.{atFault, numberOf}
 use Rattle.ledger.specs.declared.header.Caps.{Caps}
-use Rattle.submission.specs.Verdicts.{openingNumbers, submissionNumbers, questionNumbers}
+use Rattle.submission.specs.Verdicts.{openingNumbers, submissionNumbers, questionNumbers, totalsNumbers}
 use Rattle.submission.specs.Opening.{Limits, opened}
 use Rattle.submission.specs.Lent.{Lent}
 use Rattle.submission.specs.Submission.{Submitted, submitted, actionIn}
 use Rattle.submission.specs.Status.{Asked, asked}
+use Rattle.submission.specs.Totals.{noTotals, askedTotals}
 
 -- 7, 8, 9 and 11 name the lowest element code at fault
 pub record NamesLowest (check : Check) (m : Bytes) (element : ℕ) : Type 0 where
@@ -58,3 +59,10 @@ pub record Question (a : Asked) : Type 0 where
 
 abbrev pub Question-answers : Type 0
 Question-answers = (limits : Limits) (l u : Bytes) → Question (asked limits l u)
+
+-- the totals question: a refusal has its number, and the totals beside it are 0
+abbrev pub Totals-answers : Type 0
+Totals-answers =
+    (limits : Limits) (l : Bytes)
+    → (askedTotals limits l .verdict ≡ 0 → ⊥)
+    → (isOneOf totalsNumbers (askedTotals limits l .verdict) ≡ true) × (askedTotals limits l .totals ≡ noTotals)

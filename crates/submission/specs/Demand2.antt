@@ -3,8 +3,9 @@ use Prim.Native.Nat.{ℕ, _+_, _-_, _^_, _<_, _≤_}
 use mathlib.Core.Bool.{true, false}
 use mathlib.Core.Path.{_≡_}
 use mathlib.Core.Logic.{_↔_}
-use mathlib.Core.List.{map}
+use mathlib.Core.List.{[], _∷_, map}
 use lib.ListN.{length, getD, drop}
+use lib.Dec.{eqb}
 use Rattle.octets.specs.Bytes.{Bytes}
 use Rattle.octets.specs.Choice.{choose}
 use Rattle.octets.specs.Part.{part}
@@ -14,21 +15,23 @@ use Rattle.actions.specs.declared.Action.{Action}
 use Rattle.actions.specs.declared.Action.the-variants.{Modi, Prto}
 use Rattle.actions.specs.declared.Checked.the-variants.{Value}
 use Rattle.actions.specs.Actions.{isFull, isNew, repeatsTime, nextStatus}
-use Rattle.actions.specs.Statuses.{live, ported, noStep}
+use Rattle.actions.specs.Statuses.{live, closed, errored, ported, noStep}
 use Rattle.elements.specs.Codes.{uti, executionTimestamp}
 use Rattle.elements.specs.Forms.{hasForm}
 use Rattle.rules.specs.Verdicts.{formBroken}
 use Rattle.rules.specs.Findings.{ruleNumber, AllPassed, FirstBroken}
 use Rattle.rules.specs.Rules.{verdict}
 use Rattle.ledger.specs.declared.header.Caps.{Caps}
-use Rattle.ledger.specs.Layout.{u32, u64, rowsAt, nextAt, statusAt, lengthAt, identifierAt, tailAt, tailSize, headerSize, rowSize, rowStart, shortestLedger, lineSize, identifierLimit}
-use Rattle.ledger.specs.Header.{rowsInUse, nextIdentifier, capacityIn, capsIn, areCaps, capacityFor, headerRight, RightHeader, headerFields}
+use Rattle.ledger.specs.Layout.{u32, u64, rowsAt, nextAt, statusAt, lengthAt, identifierAt, tailAt, tailSize, totalAt, headerSize, rowSize, rowStart, shortestLedger, lineSize, identifierLimit}
+use Rattle.ledger.specs.Totals.{totalIn, adds}
+use Rattle.ledger.specs.Header.{rowsInUse, nextIdentifier, capacityIn, capsIn, areCaps, capacityFor, headerRight, RightHeader, headerOf, headerFields}
 use Rattle.ledger.specs.Rows.{rowAt, statusOf, identifierOf, storedTerms, storedTime, isKnown, swapRow, swapStatus, swapIdentifier, swapIn, rowFields}
 use Rattle.ledger.specs.Line.{lineFields}
 use Rattle.submission.specs.Verdicts.{ledgerShort, capWrong, ledgerWrong, rowWrong, submissionNumbers}
 use Rattle.submission.specs.Opening.{Limits, opened}
 use Rattle.submission.specs.Lent.{Lent}
 use Rattle.submission.specs.Status.{asked}
+use Rattle.submission.specs.Totals.{askedTotals}
 use Rattle.submission.specs.Submission.{Submitted, submitted, swapOf, actionIn, lineDueIn, hasWrongRow, rulesOn, submissionRules, admittingRules, maskedTerms, termsFor, placeFor}
 
 -- ---- the verdict of a submission
@@ -45,11 +48,12 @@ abbrev pub Checking-order : Type 0
 Checking-order = (limits : Limits) (a : Action) (lent : Lent) (m : Bytes) → map ruleNumber (submissionRules limits (Value a) lent m) ≡ submissionNumbers
 
 -- a row that 14 lets pass
-pub record RightRow (next : ℕ) (r : Bytes) : Type 0 where
+pub record RightRow (l r : Bytes) : Type 0 where
   pub least : live ≤ statusOf r
   pub most : statusOf r ≤ ported
   pub given : 1 ≤ identifierOf r
-  pub before : identifierOf r < next
+  pub before : identifierOf r < nextIdentifier l
+  pub counted : 1 ≤ totalIn (statusOf r) l
 
 -- what the specification asks of a message that is accepted, in words: 3 and 4, the message alone, and 14 to 18
 pub record RulesAccept (limits : Limits) (lent : Lent) (m : Bytes) : Type 0 where
@@ -58,7 +62,7 @@ pub record RulesAccept (limits : Limits) (lent : Lent) (m : Bytes) : Type 0 wher
   pub header : RightHeader (limits .largest) (lent .ledger)
   pub tape : lineSize ≤ length (lent .buffers .tape)
   pub message : verdict (limits .longest) m ≡ (0, 0)
-  pub row : isKnown (lent .ledger) (swapOf m) ≡ true → RightRow (nextIdentifier (lent .ledger)) (swapRow (lent .ledger) (swapOf m))
+  pub row : isKnown (lent .ledger) (swapOf m) ≡ true → RightRow (lent .ledger) (swapRow (lent .ledger) (swapOf m))
   pub step : nextStatus action (swapStatus (lent .ledger) (swapOf m)) ≡ noStep → ⊥
   pub time : repeatsTime action ≡ true → value executionTimestamp m ≡ storedTime (swapRow (lent .ledger) (swapOf m))
   pub room : isNew action ≡ true → rowsInUse (lent .ledger) ≡ capacityIn (lent .ledger) → ⊥
@@ -97,7 +101,13 @@ Quiet-modification = (limits : Limits) → limits .largest < 256 ^ u32 → Quiet
 abbrev pub Outside : ℕ → ℕ → ℕ → Type 0
 Outside at n i = at ≤ i → at + n ≤ i
 
--- the swap's row, rows in use, the next identifier, and every other byte of the ledger
+-- the message takes its swap out of the total of s or into it
+abbrev pub MovesTotal : Action → Bytes → Bytes → ℕ → Type 0
+MovesTotal a l m s =
+    (live ≤ s) × (s ≤ ported)
+    × (eqb (swapStatus l (swapOf m)) s ≡ eqb (nextStatus a (swapStatus l (swapOf m))) s → ⊥)
+
+-- the swap's row, rows in use, the next identifier, the totals, and every other byte of the ledger
 pub record LedgerWritten (a : Action) (l m l′ : Bytes) : Type 0 where
   -- NEWT writes the whole next row, field by field
   pub whole : isNew a ≡ true → Placed statusAt (rowFields live (swapOf m) (nextIdentifier l) (maskedTerms (capsIn l) m)) (rowAt l′ (rowsInUse l))
@@ -114,6 +124,12 @@ pub record LedgerWritten (a : Action) (l m l′ : Bytes) : Type 0 where
   -- NEWT raises rows in use by one; a line raises the next identifier by one
   pub rows : rowsInUse l′ ≡ choose (isNew a) (rowsInUse l + 1) (rowsInUse l)
   pub next : nextIdentifier l′ ≡ choose (lineDueIn a l m) (nextIdentifier l + 1) (nextIdentifier l)
+  -- each total loses the swap where it had that status and gains it where it has it now; an unknown swap is in none
+  pub totals :
+      (s : ℕ)
+      → live ≤ s
+      → s ≤ ported
+      → totalIn s l′ + adds (swapStatus l (swapOf m)) s ≡ totalIn s l + adds (nextStatus a (swapStatus l (swapOf m))) s
   -- nothing else moves
   pub long : length l′ ≡ length l
   pub others :
@@ -121,6 +137,7 @@ pub record LedgerWritten (a : Action) (l m l′ : Bytes) : Type 0 where
       → Outside (rowStart (placeFor a l m)) rowSize i
       → (isNew a ≡ true → Outside rowsAt u32 i)
       → (lineDueIn a l m ≡ true → Outside nextAt u64 i)
+      → ((s : ℕ) → MovesTotal a l m s → Outside (totalAt s) u32 i)
       → getD l′ i 0 ≡ getD l i 0
 
 -- the line at the front of the tape buffer, and every later byte; no byte where no line is due
@@ -182,12 +199,26 @@ pub record QuestionExactly (limits : Limits) (l u : Bytes) (v : ℕ) : Type 0 wh
   pub ledger : (v ≡ ledgerWrong) ↔ (headerRight (limits .largest) l ≡ false)
   pub form : (v ≡ formBroken) ↔ ((headerRight (limits .largest) l ≡ true) × (hasForm uti u ≡ false))
   pub row :
-      (v ≡ rowWrong) ↔ ((headerRight (limits .largest) l ≡ true) × (hasForm uti u ≡ true) × (hasWrongRow (nextIdentifier l) (swapIn l u) ≡ true))
+      (v ≡ rowWrong) ↔ ((headerRight (limits .largest) l ≡ true) × (hasForm uti u ≡ true) × (hasWrongRow (headerOf l) (swapIn l u) ≡ true))
   pub accepted :
-      (v ≡ 0) ↔ ((headerRight (limits .largest) l ≡ true) × (hasForm uti u ≡ true) × (hasWrongRow (nextIdentifier l) (swapIn l u) ≡ false))
+      (v ≡ 0) ↔ ((headerRight (limits .largest) l ≡ true) × (hasForm uti u ≡ true) × (hasWrongRow (headerOf l) (swapIn l u) ≡ false))
 
 abbrev pub Question-exactly : Type 0
 Question-exactly =
     (limits : Limits) (l u : Bytes)
     → QuestionExactly limits l u (asked limits l u .verdict)
     × (asked limits l u .verdict ≡ 0 → (asked limits l u .status ≡ swapStatus l u) × (asked limits l u .identifier ≡ swapIdentifier l u))
+
+-- ---- the totals question
+
+-- 3
+pub record TotalsExactly (limits : Limits) (l : Bytes) (v : ℕ) : Type 0 where
+  pub ledger : (v ≡ ledgerWrong) ↔ (headerRight (limits .largest) l ≡ false)
+  pub accepted : (v ≡ 0) ↔ (headerRight (limits .largest) l ≡ true)
+
+abbrev pub Totals-exactly : Type 0
+Totals-exactly =
+    (limits : Limits) (l : Bytes)
+    → TotalsExactly limits l (askedTotals limits l .verdict)
+    × (askedTotals limits l .verdict ≡ 0
+    → askedTotals limits l .totals ≡ totalIn live l ∷ totalIn closed l ∷ totalIn errored l ∷ totalIn ported l ∷ [])

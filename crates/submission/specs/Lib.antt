@@ -3,9 +3,11 @@ pub mod Opening
 pub mod Lent
 pub mod Submission
 pub mod Status
+pub mod Totals
 pub mod Demand1
 pub mod Demand2
 pub mod History
 pub mod Demand3
 pub mod Published
 pub mod Counting
+pub mod SinceOpening

@@ -9,7 +9,7 @@ use Rattle.elements.specs.Codes.{uti}
 use Rattle.elements.specs.Forms.{hasForm}
 use Rattle.rules.specs.Verdicts.{formBroken}
 use Rattle.rules.specs.Findings.{passed, broken, Rule, test, naming, firstBroken}
-use Rattle.ledger.specs.Header.{nextIdentifier, headerRight}
+use Rattle.ledger.specs.Header.{headerRight, headerOf}
 use Rattle.ledger.specs.Rows.{swapStatus, swapIdentifier, swapIn}
 use Rattle.submission.specs.Verdicts.{ledgerWrong, rowWrong}
 use Rattle.submission.specs.Opening.{Limits}
@@ -27,7 +27,7 @@ unfoldable pub statusRules : Limits → Bytes → Bytes → List Rule
 statusRules limits l u =
     test ledgerWrong (not (headerRight (limits .largest) l))
     ∷ naming formBroken (choose (hasForm uti u) passed (broken uti))
-    ∷ test rowWrong (hasWrongRow (nextIdentifier l) (swapIn l u))
+    ∷ test rowWrong (hasWrongRow (headerOf l) (swapIn l u))
     ∷ []
 
 -- beside a refusal, status and identifier are 0; else the status, 0 for an unknown swap, and the last identifier, 0 if unknown

@@ -3,7 +3,7 @@ use Prim.Native.Nat.{ℕ, _-_}
 use mathlib.Core.Bool.{Bool, not}
 use mathlib.Core.List.{List, [], _∷_, _++_}
 use lib.ListN.{length}
-use lib.Dec.{eqb, ltb}
+use lib.Dec.{eqb, leb, ltb}
 use Rattle.octets.specs.Bytes.{Bytes}
 use Rattle.octets.specs.Choice.{choose, both}
 use Rattle.octets.specs.Part.{splice}
@@ -24,6 +24,7 @@ use Rattle.ledger.specs.declared.header.Caps.{Caps}
 use Rattle.ledger.specs.declared.header.Header.{Header}
 use Rattle.ledger.specs.declared.search.Swap.{Swap}
 use Rattle.ledger.specs.Layout.{rowStart, lineSize, identifierLimit}
+use Rattle.ledger.specs.Totals.{totalOf}
 use Rattle.ledger.specs.Header.{rowsInUse, nextIdentifier, capsIn, capFor, headerRight, headerOf}
 use Rattle.ledger.specs.Rows.{rowAt, storedTerms, placeOf, swapRow, swapStatus, swapIdentifier, swapTime, swapIn, rowAfter, headerAfter}
 use Rattle.ledger.specs.Line.{line}
@@ -61,13 +62,14 @@ lineDueIn a l m = lineDue a (termsFor a l m) (storedTerms (swapRow l (swapOf m))
 
 -- ---- rules 14 to 17, by what is known of the swap and the numbers of the header
 
--- a swap's status is 1 to 4, and its identifier 1 to next less 1
-unfoldable pub rowRight : ℕ → Swap → Bool
-rowRight next s = both (within live ported (s .status)) (within 1 (next - 1) (s .identifier))
+-- a swap's status is 1 to 4, its identifier 1 to next less 1, and its status has a total that counts it
+unfoldable pub rowRight : Header → Swap → Bool
+rowRight h s =
+    both (within live ported (s .status)) (both (within 1 (h .next - 1) (s .identifier)) (leb 1 (totalOf (h .totals) (s .status))))
 
 -- the swap has a row, and that row is wrong (14)
-unfoldable pub hasWrongRow : ℕ → Swap → Bool
-hasWrongRow next s = both (s .known) (not (rowRight next s))
+unfoldable pub hasWrongRow : Header → Swap → Bool
+hasWrongRow h s = both (s .known) (not (rowRight h s))
 
 -- the swap's status does not admit the action (15)
 unfoldable pub isNotAdmitted : Action → Swap → Bool
@@ -84,7 +86,7 @@ findsFull a h = both (isNew a) (eqb (h .rows) (h .capacity))
 -- in checking order, for the message m of a swap with this execution timestamp
 unfoldable pub swapRules : Action → Header → Swap → Bytes → Bytes → List Rule
 swapRules a h s time m =
-    test rowWrong (hasWrongRow (h .next) s)
+    test rowWrong (hasWrongRow h s)
     ∷ test notAdmitted (isNotAdmitted a s)
     ∷ test otherTime (hasOtherTime a time m)
     ∷ test ledgerFull (findsFull a h)
@@ -140,7 +142,8 @@ rowFor a l m =
 
 unfoldable pub ledgerFor : Action → Bytes → Bytes → Bytes
 ledgerFor a l m =
-    headerAfter a (lineDueIn a l m) (rowsInUse l) (nextIdentifier l) (splice l (rowStart (placeFor a l m)) (rowFor a l m))
+    let before : ℕ = swapStatus l (swapOf m) in
+    headerAfter a (lineDueIn a l m) before (nextStatus a before) (rowsInUse l) (nextIdentifier l) (splice l (rowStart (placeFor a l m)) (rowFor a l m))
 
 -- the line takes the next identifier
 unfoldable pub lineFor : Action → Bytes → Bytes → Bytes

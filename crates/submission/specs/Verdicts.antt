@@ -10,7 +10,8 @@ ledgerShort = 1
 abbrev pub capWrong : ℕ
 capWrong = 2
 
--- The ledger is shorter than the shortest, or its header breaks the layout, has more rows than capacity or has a cap that 2 refuses.
+-- The ledger is shorter than the shortest, or its header breaks the layout, has more rows than capacity, a cap that 2 refuses or totals whose sum is not the
+-- rows in use.
 abbrev pub ledgerWrong : ℕ
 ledgerWrong = 3
 
@@ -18,7 +19,7 @@ ledgerWrong = 3
 abbrev pub tapeShort : ℕ
 tapeShort = 4
 
--- The swap's row has a status outside 1 to 4 or an identifier outside 1 to next less 1.
+-- The swap's row has a status outside 1 to 4, an identifier outside 1 to next less 1, or a status whose total is 0.
 abbrev pub rowWrong : ℕ
 rowWrong = 14
 
@@ -48,3 +49,6 @@ submissionNumbers = 3 ∷ 4 ∷ 5 ∷ 6 ∷ 7 ∷ 8 ∷ 9 ∷ 10 ∷ 11 ∷ 19 �
 
 abbrev pub questionNumbers : List ℕ
 questionNumbers = 3 ∷ 9 ∷ 14 ∷ []
+
+abbrev pub totalsNumbers : List ℕ
+totalsNumbers = 3 ∷ []

@@ -28,9 +28,10 @@ use Rattle.price.specs.Price.{dropZeros, trimZeros, shownWhole, shownDecimals, 
 use Rattle.terms.specs.Terms.{shownTruth, priceText, plusText, termsOf}
 use Rattle.rules.specs.Findings.{lowest, firstBroken}
 use Rattle.rules.specs.Rules.{hasBothQuotes, longer, longQuote, hasLongPrice, outOfOrder, rulesOf, rulesFor}
+use Rattle.ledger.specs.Totals.{totalIn, totalsIn, totalOf, sumOf, withTotal, lowered, totalsAfter}
 use Rattle.ledger.specs.Header.{rowsInUse, firstRow, nextIdentifier, capsIn, sizeOfRows, capacityIn, capFor, areCaps, capacityFor, headerRight, headerOf, newHeader}
 use Rattle.ledger.specs.Line.{line}
-use Rattle.ledger.specs.Rows.{rowAt, statusOf, identifierOf, storedTerms, storedTime, holdsUti, placeIn, isKnown, swapStatus, swapIdentifier, swapTime, newRow, withStatus, withIdentifier, withTerms, withRows, withNext, headerAfter}
+use Rattle.ledger.specs.Rows.{rowAt, statusOf, identifierOf, storedTerms, storedTime, holdsUti, placeIn, isKnown, swapStatus, swapIdentifier, swapTime, newRow, withStatus, withIdentifier, withTerms, withRows, withNext, numbersAfter, headerAfter}
 use Rattle.submission.specs.Demand3.{lastTerms, maskedTermsAt}
 use Rattle.submission.specs.History.{publishes, lineOf, tape, judgements}
 use Rattle.submission.specs.Opening.{openingRules, openingVerdict, opened}
@@ -62,7 +63,7 @@ unfolding lowest firstBroken hasBothQuotes longer longQuote hasLongPrice outOfOr
 judging = tt
 
 storing : Unit {0}
-unfolding rowsInUse firstRow nextIdentifier capsIn sizeOfRows capacityIn capFor areCaps capacityFor headerRight headerOf newHeader line rowAt statusOf identifierOf storedTerms storedTime holdsUti placeIn isKnown swapStatus swapIdentifier swapTime newRow withStatus withIdentifier withTerms withRows withNext headerAfter
+unfolding totalIn totalsIn totalOf sumOf withTotal lowered totalsAfter rowsInUse firstRow nextIdentifier capsIn sizeOfRows capacityIn capFor areCaps capacityFor headerRight headerOf newHeader line rowAt statusOf identifierOf storedTerms storedTime holdsUti placeIn isKnown swapStatus swapIdentifier swapTime newRow withStatus withIdentifier withTerms withRows withNext numbersAfter headerAfter
 storing = tt
 
 submitting : Unit {0}

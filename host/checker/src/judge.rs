@@ -1,10 +1,11 @@
-//! The three operations: open a ledger, submit one message, ask the status of
-//! one swap.
+//! The four operations: open a ledger, submit one message, ask the status of
+//! one swap, ask for the totals.
 
 use crate::elements::{Action, ACTION_TYPE, EVENT_TIMESTAMP, EVENT_TYPE, UTI};
 use crate::forms::is_uti;
 use crate::ledger::{
-    add_row, change_row, end_row, find, port_row, raise_next_identifier, write_header, Header,
+    add_row, change_row, end_row, find, move_totals, port_row, raise_next_identifier, write_header,
+    Header, Row, UNKNOWN,
 };
 use crate::line::{is_line_due, masked_terms, write_line, Lead};
 use crate::message::Values;
@@ -16,7 +17,7 @@ use crate::rules::{
     rule_6_action_wrong, rule_7_element_missing, rule_8_element_not_taken, rule_9_form_broken,
     Answer, Judged,
 };
-use crate::sizes::TERMS;
+use crate::sizes::{TERMS, TOTALS};
 
 /// Opens a ledger over a lent buffer. The caps are in the order CR, IR, FX,
 /// EQ, CO. Answers the verdict.
@@ -60,6 +61,15 @@ fn ask(ledger: &[u8], uti: &[u8]) -> Judged<Answer> {
     })
 }
 
+/// Asks for the totals (10.8): rule 3, then the totals by status as stored, from
+/// live to ported. Beside 3 they are zeros.
+pub fn totals(ledger: &[u8]) -> (u8, [u32; 4]) {
+    match rule_3_ledger_wrong(ledger) {
+        Ok(header) => (0, header.totals),
+        Err(answer) => (answer.verdict, [0; TOTALS]),
+    }
+}
+
 /// A message that every rule lets pass, and what carrying it out needs.
 struct Accepted<'a> {
     header: Header,
@@ -67,6 +77,8 @@ struct Accepted<'a> {
     action: Action,
     /// Place and last identifier of the swap's row; None for NEWT.
     row: Option<(usize, u64)>,
+    /// UNKNOWN for NEWT.
+    old_status: u8,
     new_status: u8,
     /// The masked terms: its own where it is full, else the stored ones (7.5).
     terms: [u8; TERMS],
@@ -104,6 +116,7 @@ fn judge<'a>(ledger: &[u8], tape: &[u8], message: &'a [u8]) -> Judged<Accepted<'
         values,
         action,
         row: found.map(|(place, row)| (place, row.identifier())),
+        old_status: row.map_or(UNKNOWN, Row::status),
         new_status,
         terms,
         line_due,
@@ -118,10 +131,12 @@ fn carry_out(ledger: &mut [u8], tape: &mut [u8], accepted: &Accepted) -> Answer 
         values,
         action,
         row,
+        old_status,
         new_status,
         terms,
         line_due,
     } = accepted;
+    move_totals(ledger, header, *old_status, *new_status);
     if !line_due {
         // PRTO writes the status; a MODI without a line changes no byte (8.6).
         if let (Action::Prto, Some((place, _))) = (action, *row) {

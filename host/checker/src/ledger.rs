@@ -18,6 +18,21 @@ pub struct Header {
     pub next_identifier: u64,
     pub caps: [u64; sizes::CAPS],
     pub capacity: u32,
+    /// By status, from live to ported.
+    pub totals: [u32; sizes::TOTALS],
+}
+
+impl Header {
+    /// The total of a status, which is 1 to 4.
+    pub fn total(&self, status: u8) -> u32 {
+        self.totals[usize::from(status - LIVE)]
+    }
+
+    /// The totals add up to the rows in use. The sum is exact: four u32 fit a
+    /// u64.
+    fn sum_is_rows(&self) -> bool {
+        self.totals.map(u64::from).iter().sum::<u64>() == u64::from(self.rows)
+    }
 }
 
 /// Rules 1 and 3: the ledger has room for a row.
@@ -45,6 +60,9 @@ pub fn write_header(ledger: &mut [u8], caps: &[u64; sizes::CAPS]) {
     }
     put(ledger, header::ROW_SIZE, &(row::SIZE as u32).to_le_bytes());
     put(ledger, header::CAPACITY, &capacity.to_le_bytes());
+    for status in LIVE..=PORTED {
+        put(ledger, total_at(status), &0u32.to_le_bytes());
+    }
 }
 
 /// Offset of a cap.
@@ -52,8 +70,14 @@ fn cap_at(place: usize) -> usize {
     header::CAPS + sizes::U64 * place
 }
 
+/// Offset of the total of a status, which is 1 to 4.
+fn total_at(status: u8) -> usize {
+    header::TOTALS + sizes::U32 * usize::from(status - LIVE)
+}
+
 /// Rule 3: the header, or None where the ledger is too short, the header
-/// breaks the layout, has more rows than capacity or a cap that 2 refuses.
+/// breaks the layout, has more rows than capacity, a cap that 2 refuses or
+/// totals that do not add up to the rows in use.
 pub fn read_header(ledger: &[u8]) -> Option<Header> {
     if !is_long_enough(ledger) {
         return None;
@@ -63,13 +87,15 @@ pub fn read_header(ledger: &[u8]) -> Option<Header> {
         next_identifier: u64_at(ledger, header::NEXT_IDENTIFIER),
         caps: [0, 1, 2, 3, 4].map(|place| u64_at(ledger, cap_at(place))),
         capacity: u32_at(ledger, header::CAPACITY),
+        totals: [LIVE, CLOSED, ERRORED, PORTED].map(|status| u32_at(ledger, total_at(status))),
     };
     let right = u32_at(ledger, header::FIRST_ROW) == header::SIZE as u32
         && (1..=IDENTIFIER_LIMIT).contains(&header.next_identifier)
         && u32_at(ledger, header::ROW_SIZE) == row::SIZE as u32
         && header.capacity == capacity(ledger.len())
         && header.rows <= header.capacity
-        && header.caps.iter().all(|&cap| is_cap(cap));
+        && header.caps.iter().all(|&cap| is_cap(cap))
+        && header.sum_is_rows();
     right.then_some(header)
 }
 
@@ -174,6 +200,22 @@ pub fn port_row(ledger: &mut [u8], place: usize, status: u8) {
 pub fn raise_next_identifier(ledger: &mut [u8], header: &Header) {
     let next = header.next_identifier + 1;
     put(ledger, header::NEXT_IDENTIFIER, &next.to_le_bytes());
+}
+
+/// A swap goes from the total of its old status to that of the new one (8.8);
+/// an unknown swap is in none. Neither total leaves its 32 bits: by rule 14 the
+/// old one is not 0, and by rule 3 none is more than the rows in use, which are
+/// at most 100,000.
+pub fn move_totals(ledger: &mut [u8], header: &Header, old: u8, new: u8) {
+    if old == new {
+        return;
+    }
+    if old != UNKNOWN {
+        let lowered = header.total(old) - 1;
+        put(ledger, total_at(old), &lowered.to_le_bytes());
+    }
+    let raised = header.total(new) + 1;
+    put(ledger, total_at(new), &raised.to_le_bytes());
 }
 
 fn put(bytes: &mut [u8], at: usize, part: &[u8]) {

@@ -24,7 +24,7 @@ pub mod table;
 pub use amounts::{is_cap, masked};
 pub use elements::LAST_CODE;
 pub use forms::{is_date, is_lei, is_notional, is_price, is_time, is_uti};
-pub use judge::{open, status, submit};
+pub use judge::{open, status, submit, totals};
 pub use lists::{is_currency, is_location};
 pub use matrix::is_pair;
 pub use message::{layout_right, value};

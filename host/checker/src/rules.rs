@@ -70,7 +70,8 @@ pub fn rule_2_cap_wrong(caps: &[u64; 5]) -> Judged<()> {
 }
 
 /// 3. The ledger is shorter than the shortest one, or its header breaks the
-///    layout, has more rows than capacity or has a cap that 2 refuses.
+///    layout, has more rows than capacity, a cap that 2 refuses or totals that
+///    do not add up to the rows in use.
 pub fn rule_3_ledger_wrong(ledger: &[u8]) -> Judged<Header> {
     read_header(ledger).ok_or(refusal(3))
 }
@@ -162,12 +163,13 @@ pub fn rule_13_dates_disordered(values: &Values, action: Action) -> Judged<()> {
     refuse_if(fault, 13)
 }
 
-/// 14. The swap's row has a status outside 1 to 4 or an identifier outside 1
-///     to next less 1.
+/// 14. The swap's row has a status outside 1 to 4, an identifier outside 1 to
+///     next less 1, or a status whose total is 0.
 pub fn rule_14_row_wrong(row: Option<Row>, header: &Header) -> Judged<()> {
     let fault = row.is_some_and(|row| {
         !(LIVE..=PORTED).contains(&row.status())
             || !(1..header.next_identifier).contains(&row.identifier())
+            || header.total(row.status()) == 0
     });
     refuse_if(fault, 14)
 }

@@ -34,6 +34,8 @@ pub const PRICE: usize = 20;
 pub const NOTIONAL: usize = 16;
 /// The caps: one for each asset class.
 pub const CAPS: usize = 5;
+/// The totals: one for each status from 1 to 4.
+pub const TOTALS: usize = 4;
 
 /// Section 7: offsets.
 pub mod line {
@@ -84,7 +86,8 @@ pub mod header {
     pub const CAPS: usize = NEXT_IDENTIFIER + U64;
     pub const ROW_SIZE: usize = CAPS + super::CAPS * U64;
     pub const CAPACITY: usize = ROW_SIZE + U32;
-    pub const SIZE: usize = CAPACITY + U32;
+    pub const TOTALS: usize = CAPACITY + U32;
+    pub const SIZE: usize = TOTALS + super::TOTALS * U32;
 }
 
 /// Clause 8.3: offsets in a row.
@@ -157,7 +160,8 @@ mod tests {
             (header::CAPS, 16),
             (header::ROW_SIZE, 56),
             (header::CAPACITY, 60),
-            (header::SIZE, 64),
+            (header::TOTALS, 64),
+            (header::SIZE, 80),
         ];
         let row = [
             (row::STATUS, 0),
@@ -171,14 +175,14 @@ mod tests {
         for (sum, offset) in header.into_iter().chain(row) {
             assert_eq!(sum, offset);
         }
-        assert_eq!(SHORTEST_LEDGER, 248);
-        assert_eq!(ledger_size(340), 62_624);
+        assert_eq!(SHORTEST_LEDGER, 264);
+        assert_eq!(ledger_size(340), 62_640);
     }
 
     #[test]
     fn limits() {
         assert_eq!((COUNT, ENTRY, LAST_CODE), (2, 4, 28));
         assert_eq!((LONGEST_MESSAGE, LARGEST_CAPACITY), (2_048, 100_000));
-        assert_eq!((DAY_ROWS, CAPS, UTI), (340, 5, 52));
+        assert_eq!((DAY_ROWS, CAPS, TOTALS, UTI), (340, 5, 4, 52));
     }
 }

@@ -1,7 +1,7 @@
 //! Any bytes get an answer, and a refusal changes no byte.
 
 mod common;
-use checker::sizes::{header, line, row, SHORTEST_LEDGER};
+use checker::sizes::{header, line, row, SHORTEST_LEDGER, TOTALS};
 use checker::*;
 use common::*;
 
@@ -83,6 +83,23 @@ fn is_line_due(before: &Book, message: &[u8]) -> bool {
     }
 }
 
+/// The totals after a swap went from one status to another; unknown has none.
+fn moved(mut totals: [u32; TOTALS], old: u8, new: u8) -> [u32; TOTALS] {
+    for status in 1..=4 {
+        let total = &mut totals[usize::from(status) - 1];
+        *total += u32::from(status == new);
+        *total -= u32::from(status == old);
+    }
+    totals
+}
+
+/// The rows in use by status.
+fn count(book: &Book) -> [u32; TOTALS] {
+    let rows = book.u32_at(header::ROWS) as usize;
+    let is = |place, status| book.row(place)[row::STATUS] == status;
+    [1, 2, 3, 4].map(|status| (0..rows).filter(|&place| is(place, status)).count() as u32)
+}
+
 #[test]
 fn leaves_take_any_bytes() {
     let mut numbers = Numbers(1);
@@ -117,11 +134,18 @@ fn changed_messages_and_ledgers() {
     let mut numbers = Numbers(3);
     let mut verdicts = [0; 20];
     let mut modi_lines = [0; 2];
+    let mut wrong_totals = 0;
     for round in 0..60_000 {
         let mut book = Book::new(1 + numbers.below(3));
         book.accept(&newt());
         if numbers.below(2) == 0 {
             book.accept(&term());
+        }
+        if numbers.below(4) == 0 {
+            // one row is in use, so the sum is right
+            let mut totals = [0; TOTALS];
+            totals[numbers.below(TOTALS)] = 1;
+            book.set_totals(totals);
         }
         if numbers.below(3) == 0 {
             for _ in 0..=numbers.below(3) {
@@ -166,9 +190,13 @@ fn changed_messages_and_ledgers() {
                 book.u64_at(header::NEXT_IDENTIFIER),
                 next + u64::from(is_due)
             );
-            let asked = status(&book.ledger, value(&bytes, 1).unwrap());
+            let uti = value(&bytes, 1).unwrap();
+            let asked = status(&book.ledger, uti);
             assert!((1..=4).contains(&asked.status));
             assert!(!is_due || asked.identifier == next);
+            let old = status(&before.ledger, uti).status;
+            let due = moved(before.totals(), old, asked.status);
+            assert_eq!(totals(&book.ledger), (0, due));
             if value(&bytes, 2) == Some(b"MODI") {
                 modi_lines[usize::from(is_due)] += 1;
                 assert!(is_due || book == before);
@@ -176,7 +204,15 @@ fn changed_messages_and_ledgers() {
         }
         let asked = status(&book.ledger, UTI.as_bytes());
         assert!(matches!(asked.verdict, 0 | 3 | 14));
+        let due = if asked.verdict == 3 {
+            (3, [0; TOTALS])
+        } else {
+            (0, book.totals())
+        };
+        assert_eq!(totals(&book.ledger), due);
+        wrong_totals += u32::from(due.0 == 0 && due.1 != count(&book));
     }
+    assert!(wrong_totals > 0);
     for verdict in [0, 3, 4, 5, 6, 7, 8, 9, 10, 11, 14, 15, 17, 19] {
         assert!(verdicts[verdict] > 0, "{verdict}: {verdicts:?}");
     }
@@ -193,6 +229,7 @@ fn ledgers_of_any_bytes() {
         let before = (ledger.clone(), tape.clone());
         assert_eq!(submit(&mut ledger, &mut tape, &m).verdict, 3);
         assert_eq!(status(&ledger, UTI.as_bytes()).verdict, 3);
+        assert_eq!(totals(&ledger), (3, [0; TOTALS]));
         assert!((ledger.clone(), tape) == before);
         let caps = [(); 5].map(|()| numbers.next() >> numbers.below(64));
         let verdict = open(&mut ledger, &caps);
@@ -200,5 +237,7 @@ fn ledgers_of_any_bytes() {
             (ledger.len() < SHORTEST_LEDGER, verdict),
             (true, 1) | (false, 0 | 2)
         ));
+        let after = if verdict == 0 { 0 } else { 3 };
+        assert_eq!(totals(&ledger), (after, [0; TOTALS]));
     }
 }

@@ -1,7 +1,7 @@
 //! Sections "The tape line" and "The ledger": what is written.
 
 mod common;
-use checker::sizes::{self, header, line, row, TERMS, U64};
+use checker::sizes::{self, header, line, row, TERMS, U32, U64};
 use common::*;
 use std::ops::Range;
 
@@ -68,11 +68,12 @@ fn a_newt_field_by_field() {
     // the header, and no other row
     assert_eq!(book.u32_at(header::ROWS), 1);
     assert_eq!(book.u64_at(header::NEXT_IDENTIFIER), 2);
+    assert_eq!(book.totals(), [1, 0, 0, 0]);
     assert_eq!(book.row(1), [0xEE; row::SIZE]);
     let opened = Book::new(2);
     for stays in [
         header::FIRST_ROW..header::NEXT_IDENTIFIER,
-        header::CAPS..header::SIZE,
+        header::CAPS..header::TOTALS,
     ] {
         assert_eq!(book.ledger[stays.clone()], opened.ledger[stays]);
     }
@@ -219,6 +220,11 @@ fn the_life_of_a_swap() {
     let identifier = in_row(row::IDENTIFIER, U64);
     let terms = in_row(row::TERMS, TERMS);
     let next = header::NEXT_IDENTIFIER..header::NEXT_IDENTIFIER + U64;
+    let total = |place: usize| {
+        let at = header::TOTALS + U32 * place;
+        at..at + U32
+    };
+    let [live, closed, errored, ported] = [0, 1, 2, 3].map(total);
 
     // MODI writes status, terms and identifier
     let before = book.clone();
@@ -246,7 +252,13 @@ fn the_life_of_a_swap() {
     only_changed(
         &before,
         &book,
-        &[next.clone(), status.clone(), identifier.clone()],
+        &[
+            next.clone(),
+            live.clone(),
+            closed.clone(),
+            status.clone(),
+            identifier.clone(),
+        ],
     );
     assert_eq!(
         &book.line()[..line::TERMS],
@@ -284,7 +296,13 @@ fn the_life_of_a_swap() {
     only_changed(
         &before,
         &book,
-        &[next.clone(), status.clone(), identifier.clone()],
+        &[
+            next.clone(),
+            closed.clone(),
+            errored.clone(),
+            status.clone(),
+            identifier.clone(),
+        ],
     );
     assert_eq!(
         &book.line()[..line::EVENT_TIME],
@@ -296,16 +314,29 @@ fn the_life_of_a_swap() {
     );
 
     // REVI
+    let before = book.clone();
     assert_eq!(book.accept(&full("REVI", None)), 7);
+    only_changed(
+        &before,
+        &book,
+        &[
+            next.clone(),
+            live.clone(),
+            errored.clone(),
+            status.clone(),
+            identifier.clone(),
+            terms.clone(),
+        ],
+    );
     assert_eq!(
         &book.line()[..line::EVENT_TIME],
         "000000000007000000000006REVI    "
     );
 
-    // PRTO writes only the status, and no byte of the tape buffer
+    // PRTO writes the status and two totals, and no byte of the tape buffer
     let before = book.clone();
     assert_eq!(book.accept(&prto()), 0);
-    only_changed(&before, &book, &[status]);
+    only_changed(&before, &book, &[live, ported, status]);
     assert_eq!(book.tape, before.tape);
     assert_eq!(book.row(1)[row::STATUS], 4);
     assert_eq!(book.u64_at(header::NEXT_IDENTIFIER), 8);
@@ -326,11 +357,13 @@ fn the_first_row_of_equal_length_and_bytes_is_the_swaps() {
     let copy = book.row(1).to_vec();
     book.row_mut(2).copy_from_slice(&copy);
     book.set_u32(header::ROWS, 3);
+    book.set_totals([3, 0, 0, 0]);
     book.accept(&full("CORR", None));
     let identifiers = [1, 2].map(|place| book.row(place)[row::IDENTIFIER]);
     assert_eq!(identifiers, [4, 3]);
     // a row that is not in use is not the swap's
     book.set_u32(header::ROWS, 1);
+    book.set_totals([1, 0, 0, 0]);
     book.refuse(&modi(), 15, 0);
     book.accept(&newt());
     assert_eq!(book.row(1)[row::STATUS], 1);

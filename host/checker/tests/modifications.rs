@@ -276,11 +276,19 @@ fn the_other_verdicts_come_first() {
     book.refuse(&with(same.clone(), 9, "2029-02-28"), 13, 0);
     book.refuse(&with(same.clone(), 5, "2024-02-29T10:15:29Z"), 13, 0);
     book.refuse(&with(same.clone(), 6, "2024-02-29T10:15:31Z"), 16, 0);
-    for (status, verdict) in [(0, 14), (2, 15), (3, 15), (4, 15), (5, 14)] {
+    for status in [2, 3, 4] {
         let mut other = book.clone();
-        other.row_mut(0)[row::STATUS] = status;
-        other.refuse(&same, verdict, 0);
+        other.set_only_status(status);
+        other.refuse(&same, 15, 0);
     }
+    for status in [0, 5] {
+        let mut broken = book.clone();
+        broken.row_mut(0)[row::STATUS] = status;
+        broken.refuse(&same, 14, 0);
+    }
+    let mut broken = book.clone();
+    broken.set_totals([0, 1, 0, 0]);
+    broken.refuse(&same, 14, 0);
     for identifier in [0, 2, u64::MAX] {
         let mut broken = book.clone();
         broken.set_u64(header::SIZE + row::IDENTIFIER, identifier);

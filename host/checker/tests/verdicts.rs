@@ -1,8 +1,8 @@
 //! Section "Verdict numbers, in checking order".
 
 mod common;
-use checker::sizes::{self, header, line, row, LARGEST_CAPACITY, SHORTEST_LEDGER, U64};
-use checker::{open, status, submit, Answer, LAST_CODE};
+use checker::sizes::{self, header, line, row, LARGEST_CAPACITY, SHORTEST_LEDGER, TOTALS, U64};
+use checker::{open, status, submit, totals, Answer, LAST_CODE};
 use common::*;
 
 #[test]
@@ -44,9 +44,9 @@ fn opening_writes_the_header_alone() {
         (sizes::ledger_size(2) - 1, 1),
         (sizes::ledger_size(2), 2),
         (sizes::ledger_size(340), 340),
-        (248, 1),
-        (431, 1),
-        (432, 2),
+        (264, 1),
+        (447, 1),
+        (448, 2),
     ] {
         let mut ledger = vec![0xEE; length];
         assert_eq!(open(&mut ledger, &caps), 0);
@@ -59,6 +59,7 @@ fn opening_writes_the_header_alone() {
         }
         header.extend((row::SIZE as u32).to_le_bytes());
         header.extend((capacity as u32).to_le_bytes());
+        header.extend([0; 16]); // four totals of 0
         assert_eq!(ledger[..header::SIZE], header);
         assert!(ledger[header::SIZE..].iter().all(|&b| b == 0xEE));
     }
@@ -78,7 +79,7 @@ fn capacity_is_at_most_100_000() {
     }
 }
 
-/// Submits and asks; both answer 3.
+/// Submits and asks both questions; all answer 3.
 fn breaks_the_ledger(mut book: Book) {
     assert_eq!(book.submit(&newt()), refused(3, 0));
     // 3 comes before 4 and 5
@@ -86,6 +87,7 @@ fn breaks_the_ledger(mut book: Book) {
     assert_eq!(status(&book.ledger, UTI.as_bytes()), refused(3, 0));
     // and before 9
     assert_eq!(status(&book.ledger, b""), refused(3, 0));
+    assert_eq!(totals(&book.ledger), (3, [0; TOTALS]));
 }
 
 #[test]
@@ -97,9 +99,8 @@ fn verdict_3_ledger_wrong() {
         breaks_the_ledger(short);
     }
     for (at, bad) in [
-        (header::ROWS, 4), // more than capacity
-        (header::ROWS, u32::MAX),
         (header::FIRST_ROW, 0),
+        (header::FIRST_ROW, 64), // a header without totals
         (header::FIRST_ROW, header::SIZE as u32 + 1),
         (header::FIRST_ROW, u32::MAX),
         (header::ROW_SIZE, row::SIZE as u32 - 1),
@@ -111,6 +112,20 @@ fn verdict_3_ledger_wrong() {
     ] {
         let mut broken = book.clone();
         broken.set_u32(at, bad);
+        breaks_the_ledger(broken);
+    }
+    // more rows in use than the capacity allows; the totals agree
+    for bad in [4, u32::MAX] {
+        let mut broken = book.clone();
+        broken.set_u32(header::ROWS, bad);
+        broken.set_totals([bad, 0, 0, 0]);
+        breaks_the_ledger(broken);
+    }
+    // totals that do not add up to the rows in use; see tests/totals.rs
+    for (rows, totals) in [(0, [0, 0, 0, 1]), (1, [0; 4]), (3, [2, 0, 0, 0])] {
+        let mut broken = book.clone();
+        broken.set_u32(header::ROWS, rows);
+        broken.set_totals(totals);
         breaks_the_ledger(broken);
     }
     for bad in [0, 1_000_000_000_001, u64::MAX] {
@@ -573,6 +588,12 @@ fn verdict_14_row_wrong() {
         broken.set_u64(header::SIZE + row::IDENTIFIER, bad);
         asks_14(&mut broken);
     }
+    // the total of the status is 0; see tests/totals.rs
+    for bad in [[0, 1, 0, 0], [0, 0, 1, 0], [0, 0, 0, 1]] {
+        let mut broken = book.clone();
+        broken.set_totals(bad);
+        asks_14(&mut broken);
+    }
     for good in [1, 2] {
         let mut other = book.clone();
         other.set_u64(header::SIZE + row::IDENTIFIER, good);
@@ -615,7 +636,7 @@ fn verdict_15_not_admitted() {
             let mut book = Book::new(3);
             if before > 0 {
                 book.accept(&newt());
-                book.row_mut(0)[row::STATUS] = before as u8;
+                book.set_only_status(before as u8);
             }
             let answer = book.submit(m);
             if after == 15 {

@@ -1,12 +1,12 @@
 //! Lends the same bytes to the judges and compares what they make of them.
 
-use crate::guarded::Guarded;
+use crate::guarded::{Guarded, GuardedTotals};
 use crate::judge::{Judge, BOTH};
-use crate::layout::{self, Caps, LINE_SIZE};
+use crate::layout::{self, Caps, HEADER_SIZE, LINE_SIZE, ROWS_IN_HEADER, TOTALS};
 use crate::message::described;
 use crate::order::NAMING_AN_ELEMENT;
 use crate::tally::Tally;
-use sdr::{Answer, ACCEPTED};
+use sdr::{Answer, Totals, ACCEPTED};
 use std::fmt;
 
 /// What one judge is lent.
@@ -15,6 +15,7 @@ struct Side {
     ledger: Guarded,
     tape: Guarded,
     input: Guarded,
+    totals: GuardedTotals,
 }
 
 /// A ledger and a tape buffer, one copy for each judge.
@@ -32,7 +33,7 @@ pub struct Mismatch(String);
 
 impl Mismatch {
     /// An answer on which both sides agree is not the one that is due.
-    pub fn new(input: &[u8], answer: Answer, fault: &str) -> Self {
+    pub fn new(input: &[u8], answer: impl fmt::Debug, fault: &str) -> Self {
         Mismatch(format!("{fault}\n{}both {answer:?}\n", described(input)))
     }
 }
@@ -44,7 +45,7 @@ impl fmt::Display for Mismatch {
 }
 
 /// The result of a call on both sides.
-pub type Agreed = Result<Answer, Mismatch>;
+pub type Agreed<T = Answer> = Result<T, Mismatch>;
 
 impl Default for Compared {
     fn default() -> Self {
@@ -66,6 +67,7 @@ impl Compared {
             ledger: Guarded::new(pattern),
             tape: Guarded::new(pattern),
             input: Guarded::new(pattern),
+            totals: GuardedTotals::new(pattern),
         };
         Compared {
             sides: judges.iter().zip(patterns).map(side).collect(),
@@ -122,6 +124,11 @@ impl Compared {
         agreed(self.try_status(uti))
     }
 
+    /// Asks for the totals; panics on a mismatch.
+    pub fn totals(&mut self) -> Totals {
+        agreed(self.try_totals())
+    }
+
     /// Opens the ledger and compares.
     pub fn try_open(&mut self, caps: &Caps) -> Agreed {
         let call = |side: &mut Side| side.judge.open(side.ledger.bytes_mut(), caps);
@@ -155,6 +162,24 @@ impl Compared {
         Ok(answer)
     }
 
+    /// Asks for the totals and compares.
+    pub fn try_totals(&mut self) -> Agreed<Totals> {
+        self.sides.iter_mut().for_each(|side| side.totals.reset());
+        let call = |side: &mut Side| {
+            side.judge
+                .totals(side.ledger.bytes(), side.totals.totals_mut())
+        };
+        let answer = self.call(&[], call)?;
+        self.tally.question();
+        if let Some(fault) = self.wrong_totals(answer) {
+            return Err(self.mismatch(&fault, &[], &[answer]));
+        }
+        Ok(Totals {
+            verdict: answer.verdict,
+            totals: self.sides[0].totals.totals(),
+        })
+    }
+
     /// Makes the same call on every side and compares all that it left.
     fn call(&mut self, input: &[u8], call: impl Fn(&mut Side) -> Answer) -> Agreed {
         self.keep();
@@ -166,7 +191,8 @@ impl Compared {
         let fault = self
             .wrong_write(input)
             .or_else(|| self.difference(&answers))
-            .or_else(|| self.wrong_refusal(answers[0]).map(str::to_string));
+            .or_else(|| self.wrong_refusal(answers[0]).map(str::to_string))
+            .or_else(|| self.wrong_sum(answers[0]));
         match fault {
             Some(fault) => Err(self.mismatch(&fault, input, &answers)),
             None => Ok(answers[0]),
@@ -215,6 +241,32 @@ impl Compared {
         None
     }
 
+    /// A totals question wrote, or two sides answered different totals, or a
+    /// refusal some.
+    fn wrong_totals(&self, answer: Answer) -> Option<String> {
+        let totals: Vec<[u32; TOTALS]> =
+            self.sides.iter().map(|side| side.totals.totals()).collect();
+        if !self.is_unchanged() {
+            return Some("a totals question wrote".to_string());
+        }
+        if totals.iter().any(|one| *one != totals[0]) {
+            return Some(format!("the totals differ: {totals:?}"));
+        }
+        let refused = answer.verdict != ACCEPTED && totals[0] != [0; TOTALS];
+        refused.then(|| format!("a refusal answers totals: {:?}", totals[0]))
+    }
+
+    /// An accepted call leaves totals that do not add up to the rows in use.
+    fn wrong_sum(&self, answer: Answer) -> Option<String> {
+        if answer.verdict != ACCEPTED || self.ledger().len() < HEADER_SIZE {
+            return None;
+        }
+        let rows = layout::u32_at(self.ledger(), ROWS_IN_HEADER);
+        let totals = layout::totals_in(self.ledger());
+        let sum: u64 = totals.into_iter().map(u64::from).sum();
+        (sum != u64::from(rows)).then(|| format!("{rows} rows are left with totals {totals:?}"))
+    }
+
     /// A refusal changes nothing, answers no identifier and no status; an
     /// element is named only under the rules that name one.
     fn wrong_refusal(&self, answer: Answer) -> Option<&'static str> {
@@ -250,7 +302,7 @@ impl Side {
     /// What the side wrote where it must not.
     fn wrong_write(&self, input: &[u8], tape_before: &[u8]) -> Option<&'static str> {
         let lent = [&self.ledger, &self.tape, &self.input];
-        if !lent.iter().all(|guarded| guarded.is_whole()) {
+        if !lent.iter().all(|guarded| guarded.is_whole()) || !self.totals.is_whole() {
             return Some("guard bytes changed");
         }
         if self.input.bytes() != input {
@@ -262,7 +314,7 @@ impl Side {
     }
 }
 
-fn agreed(result: Agreed) -> Answer {
+fn agreed<T>(result: Agreed<T>) -> T {
     result.unwrap_or_else(|mismatch| panic!("{mismatch}"))
 }
 
@@ -279,7 +331,7 @@ fn difference(first: &[u8], second: &[u8]) -> Option<(usize, u8, u8)> {
 #[cfg(test)]
 mod tests {
     use super::{Answer, Caps, Compared, Judge};
-    use crate::layout::{ledger_size, LINE_SIZE};
+    use crate::layout::{ledger_size, LINE_SIZE, TOTALS, TOTALS_IN_HEADER, U32_SIZE};
 
     /// A byte of the second row.
     const IN_ROW_1: usize = ledger_size(1) + 75;
@@ -304,6 +356,36 @@ mod tests {
 
         fn status(&self, ledger: &[u8], _: &[u8]) -> Answer {
             self.0(&mut ledger.to_vec(), &mut [0; TAPE])
+        }
+
+        fn totals(&self, ledger: &[u8], totals: &mut [u32; TOTALS]) -> Answer {
+            *totals = [0; TOTALS];
+            self.0(&mut ledger.to_vec(), &mut [0; TAPE])
+        }
+    }
+
+    /// A judge that answers totals as it is told, and nothing else.
+    struct Totalling(fn(&mut [u32; TOTALS]) -> Answer);
+
+    impl Judge for Totalling {
+        fn name(&self) -> &'static str {
+            "totalling"
+        }
+
+        fn open(&self, _: &mut [u8], _: &Caps) -> Answer {
+            Answer::default()
+        }
+
+        fn submit(&self, _: &mut [u8], _: &mut [u8], _: &[u8]) -> Answer {
+            Answer::default()
+        }
+
+        fn status(&self, _: &[u8], _: &[u8]) -> Answer {
+            Answer::default()
+        }
+
+        fn totals(&self, _: &[u8], totals: &mut [u32; TOTALS]) -> Answer {
+            self.0(totals)
         }
     }
 
@@ -354,7 +436,23 @@ mod tests {
         "the answers differ".to_string()
     }
 
-    static BOTH_WRONG: [(Told, &str); 6] = [
+    static BOTH_WRONG: [(Told, &str); 8] = [
+        (
+            Told(|ledger, _| {
+                ledger[0] += 1;
+                answer(0, 0, 0, 0)
+            }),
+            "1 rows are left with totals [0, 0, 0, 0]",
+        ),
+        (
+            // Four times 2^30, which wraps to 0 at 32 bits.
+            Told(|ledger, _| {
+                let totals = ledger[TOTALS_IN_HEADER].chunks_mut(U32_SIZE);
+                totals.for_each(|total| total[3] = 0x40);
+                answer(0, 0, 0, 0)
+            }),
+            "0 rows are left with totals [1073741824, 1073741824, 1073741824, 1073741824]",
+        ),
         (
             Told(|ledger, _| {
                 ledger[0] += 1;
@@ -404,6 +502,60 @@ mod tests {
             let fault = fault_between(&SILENT, other);
             assert!(fault.starts_with(&text()), "{fault}");
         }
+    }
+
+    /// Judges beside one that answers totals of 1, 2, 3 and 4, and how the
+    /// difference is told. The second leaves the array as it was.
+    static OTHER_TOTALS: [(Totalling, &str); 4] = [
+        (Totalling(|_| answer(3, 0, 0, 0)), "the answers differ"),
+        (
+            Totalling(|_| answer(0, 0, 0, 0)),
+            "the totals differ: [[1, 2, 3, 4], [1010580540, 1010580540, 1010580540, 1010580540]]",
+        ),
+        (
+            Totalling(|totals| {
+                *totals = [1, 2, 3, 5];
+                answer(0, 0, 0, 0)
+            }),
+            "the totals differ: [[1, 2, 3, 4], [1, 2, 3, 5]]",
+        ),
+        (
+            Totalling(|totals| {
+                *totals = [0, 2, 3, 4];
+                answer(0, 0, 0, 0)
+            }),
+            "the totals differ: [[1, 2, 3, 4], [0, 2, 3, 4]]",
+        ),
+    ];
+
+    static COUNTING: Totalling = Totalling(|totals| {
+        *totals = [1, 2, 3, 4];
+        Answer::default()
+    });
+
+    static REFUSING: Totalling = Totalling(|totals| {
+        *totals = [0, 0, 0, 4];
+        answer(3, 0, 0, 0)
+    });
+
+    fn totals_between(first: &'static Totalling, second: &'static Totalling) -> Compared {
+        let mut compared = Compared::between(&[first, second]);
+        compared.set_ledger(&[0; ledger_size(2)]);
+        compared
+    }
+
+    #[test]
+    fn each_difference_of_totals_is_told() {
+        for (other, text) in &OTHER_TOTALS {
+            let result = totals_between(&COUNTING, other).try_totals();
+            let fault = result.expect_err("the totals differ").to_string();
+            assert!(fault.starts_with(text), "{fault}");
+        }
+        let result = totals_between(&REFUSING, &REFUSING).try_totals();
+        let fault = result.expect_err("both are wrong").to_string();
+        assert!(fault.starts_with("a refusal answers totals"), "{fault}");
+        let answered = totals_between(&COUNTING, &COUNTING).totals();
+        assert_eq!((answered.verdict, answered.totals), (0, [1, 2, 3, 4]));
     }
 
     #[test]

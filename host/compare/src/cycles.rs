@@ -52,7 +52,8 @@ impl Model {
     }
 
     /// Takes a step with a tape buffer of a length. Of the rules that look at
-    /// the message alone, it may break that of the matrix.
+    /// the message alone, it may break that of the matrix. The totals are
+    /// counted anew, row by row.
     pub fn submit(&mut self, message: &Message, tape_length: usize) -> Due {
         let verdict = self.verdict(message, tape_length);
         if verdict != ACCEPTED {
@@ -62,7 +63,9 @@ impl Model {
                 line: None,
             };
         }
-        self.accept(message)
+        let due = self.accept(message);
+        self.header.count(&self.rows);
+        due
     }
 
     fn verdict(&self, message: &Message, tape_length: usize) -> u8 {
@@ -129,7 +132,6 @@ impl Model {
 
     fn add_row(&mut self, uti: &[u8]) -> usize {
         self.rows.push(Row::new(uti, 0, [b' '; TERMS_SIZE]));
-        self.header.rows += 1;
         self.rows.len() - 1
     }
 }

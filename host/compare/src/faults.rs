@@ -10,6 +10,7 @@ mod case;
 
 pub use case::Case;
 
+use crate::layout::TOTALS;
 use crate::lists::*;
 use crate::matrix::{self, is_full};
 use crate::order;
@@ -21,6 +22,8 @@ use sdr::{PORTED, UNKNOWN};
 pub enum Damage {
     Short,
     ManyRows,
+    /// Rows in use that the capacity allows and the totals do not add up to.
+    OtherRows,
     FirstRow,
     NextZero,
     NextHigh,
@@ -28,6 +31,10 @@ pub enum Damage {
     RowSize,
     CapacityLow,
     CapacityHigh,
+    /// The total at this place is another one.
+    Total(usize),
+    /// The totals add up to the rows in use at 32 bits, but not exactly.
+    TotalsWrap,
 }
 
 /// A fault in the message's layout (5).
@@ -65,13 +72,15 @@ pub enum Order {
     Reporting,
 }
 
-/// What is wrong with the swap's row (14).
+/// What is wrong with the swap's row, or with the total of its status (14).
 #[derive(Clone, Copy, Debug, PartialEq, Eq)]
 pub enum WrongRow {
     Status(u8),
     IdentifierZero,
     IdentifierNext,
     IdentifierHigh,
+    /// The total of its status is 0.
+    TotalZero,
 }
 
 /// A broken rule.
@@ -192,14 +201,17 @@ fn damages() -> Vec<Damage> {
     let mut damages = vec![
         Damage::Short,
         Damage::ManyRows,
+        Damage::OtherRows,
         Damage::FirstRow,
         Damage::NextZero,
         Damage::NextHigh,
         Damage::RowSize,
         Damage::CapacityLow,
         Damage::CapacityHigh,
+        Damage::TotalsWrap,
     ];
     damages.extend((0..CLASSES.len()).map(Damage::Cap));
+    damages.extend((0..TOTALS).map(Damage::Total));
     damages
 }
 
@@ -226,13 +238,14 @@ const TOO_LONG: [TooLong; 3] = [
     TooLong::BasisPoints,
 ];
 
-const WRONG_ROWS: [WrongRow; 6] = [
+const WRONG_ROWS: [WrongRow; 7] = [
     WrongRow::Status(UNKNOWN),
     WrongRow::Status(PORTED + 1),
     WrongRow::Status(255),
     WrongRow::IdentifierZero,
     WrongRow::IdentifierNext,
     WrongRow::IdentifierHigh,
+    WrongRow::TotalZero,
 ];
 
 /// Up to so many different faults that a message of the action can have.

@@ -1,6 +1,6 @@
 //! Bytes that no host would send.
 
-use crate::layout::{COUNT_SIZE, ENTRY_SIZE};
+use crate::layout::{totals_in, COUNT_SIZE, ENTRY_SIZE, TOTALS, TOTALS_IN_HEADER};
 use crate::lists::LAST_CODE;
 use crate::random::Random;
 
@@ -18,6 +18,17 @@ pub fn flip(random: &mut Random, bytes: &mut [u8]) {
             _ => random.bits() as u8,
         };
     }
+}
+
+/// Moves some of one total of a ledger to another. The sum stays.
+pub fn shift_totals(random: &mut Random, ledger: &mut [u8]) {
+    let mut totals = totals_in(ledger);
+    let (from, to) = (random.below(TOTALS), random.below(TOTALS));
+    let moved = random.between(0, totals[from] as usize) as u32;
+    totals[from] -= moved;
+    totals[to] += moved;
+    let bytes = totals.map(u32::to_le_bytes);
+    ledger[TOTALS_IN_HEADER].copy_from_slice(bytes.as_flattened());
 }
 
 /// Random bytes, most often few.

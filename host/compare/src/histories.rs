@@ -7,6 +7,7 @@ use crate::lists::{ACTION_TYPE, EVENT_TIMESTAMP, EVENT_TYPE, UTI};
 use crate::matrix::{can_write_line, is_full};
 use crate::message::Message;
 use crate::terms::terms_of;
+use sdr::Totals;
 
 /// One submission: the message and the tape buffer before it.
 #[derive(Clone)]
@@ -40,6 +41,8 @@ pub struct Run {
     /// A line's bytes as each submission left them, over accepted messages
     /// that wrote a line.
     pub tape: Vec<u8>,
+    /// What the totals question answers in the end.
+    pub totals: Totals,
 }
 
 /// Submits all messages of a history.
@@ -54,6 +57,7 @@ pub fn run(compared: &mut Compared, history: &History) -> Run {
         verdicts: Vec::new(),
         identifiers: Vec::new(),
         tape: Vec::new(),
+        totals: Totals::default(),
     };
     for call in &history.calls {
         compared.set_tape(&call.tape);
@@ -65,6 +69,7 @@ pub fn run(compared: &mut Compared, history: &History) -> Run {
             run.tape.extend(&compared.tape()[..LINE_SIZE]);
         }
     }
+    run.totals = compared.totals();
     run
 }
 

@@ -1,9 +1,9 @@
 //! The two that judge: the core and the checker.
 
-use crate::layout::Caps;
+use crate::layout::{Caps, TOTALS};
 use sdr::Answer;
 
-/// The three operations on lent bytes.
+/// The four operations on lent bytes.
 pub trait Judge: Sync {
     /// The name that a report uses.
     fn name(&self) -> &'static str;
@@ -13,6 +13,8 @@ pub trait Judge: Sync {
     fn submit(&self, ledger: &mut [u8], tape: &mut [u8], message: &[u8]) -> Answer;
     /// Asks the status of one swap.
     fn status(&self, ledger: &[u8], uti: &[u8]) -> Answer;
+    /// Asks for the totals; only the verdict of the answer is used.
+    fn totals(&self, ledger: &[u8], totals: &mut [u32; TOTALS]) -> Answer;
 }
 
 /// The core, through its C interface.
@@ -47,6 +49,10 @@ impl Judge for Core {
     fn status(&self, ledger: &[u8], uti: &[u8]) -> Answer {
         sdr::status(ledger, uti)
     }
+
+    fn totals(&self, ledger: &[u8], totals: &mut [u32; TOTALS]) -> Answer {
+        sdr::totals_into(ledger, totals)
+    }
 }
 
 impl Judge for Apart {
@@ -73,6 +79,13 @@ impl Judge for Apart {
     fn status(&self, ledger: &[u8], uti: &[u8]) -> Answer {
         sdr::status(&Box::<[u8]>::from(ledger), &Box::<[u8]>::from(uti))
     }
+
+    fn totals(&self, ledger: &[u8], totals: &mut [u32; TOTALS]) -> Answer {
+        let mut own = Box::new(*totals);
+        let answer = sdr::totals_into(&Box::<[u8]>::from(ledger), &mut own);
+        *totals = *own;
+        answer
+    }
 }
 
 impl Judge for Checker {
@@ -93,6 +106,19 @@ impl Judge for Checker {
 
     fn status(&self, ledger: &[u8], uti: &[u8]) -> Answer {
         translated(checker::status(ledger, uti))
+    }
+
+    fn totals(&self, ledger: &[u8], totals: &mut [u32; TOTALS]) -> Answer {
+        handed_over(checker::totals(ledger), totals)
+    }
+}
+
+/// Writes the totals into the array and answers the verdict beside them.
+fn handed_over(answered: (u8, [u32; TOTALS]), totals: &mut [u32; TOTALS]) -> Answer {
+    *totals = answered.1;
+    Answer {
+        verdict: answered.0,
+        ..Answer::default()
     }
 }
 

@@ -3,9 +3,9 @@
 
 mod ledger;
 
-pub use ledger::{described, place, u32_at, u64_at, write, Header, Row};
+pub use ledger::{described, place, total_place, totals_in, u32_at, u64_at, write, Header, Row};
 
-use crate::lists::CLASSES;
+use crate::lists::{CLASSES, ROW_STATUSES};
 use std::ops::Range;
 
 /// A field of so many bytes right behind another one.
@@ -154,6 +154,8 @@ pub const EXECUTION_IN_TERMS: Range<usize> = 0..TIME_SIZE;
 
 /// A cap for each asset class.
 pub type Caps = [u64; CLASSES.len()];
+/// So many totals: one for each status of a row.
+pub const TOTALS: usize = ROW_STATUSES.len();
 
 pub const ROWS_IN_HEADER: Range<usize> = 0..U32_SIZE;
 pub const FIRST_ROW_IN_HEADER: Range<usize> = after(ROWS_IN_HEADER, U32_SIZE);
@@ -161,9 +163,10 @@ pub const NEXT_IN_HEADER: Range<usize> = after(FIRST_ROW_IN_HEADER, U64_SIZE);
 pub const CAPS_IN_HEADER: Range<usize> = after(NEXT_IN_HEADER, CLASSES.len() * U64_SIZE);
 pub const ROW_SIZE_IN_HEADER: Range<usize> = after(CAPS_IN_HEADER, U32_SIZE);
 pub const CAPACITY_IN_HEADER: Range<usize> = after(ROW_SIZE_IN_HEADER, U32_SIZE);
+pub const TOTALS_IN_HEADER: Range<usize> = after(CAPACITY_IN_HEADER, TOTALS * U32_SIZE);
 
 /// The bytes of the header.
-pub const HEADER_SIZE: usize = CAPACITY_IN_HEADER.end;
+pub const HEADER_SIZE: usize = TOTALS_IN_HEADER.end;
 
 // A row.
 
@@ -231,8 +234,35 @@ mod tests {
         assert_eq!(u32_at(&bytes, CAPACITY_IN_HEADER), 100_000);
         let caps = bytes[CAPS_IN_HEADER].chunks(U64_SIZE);
         assert!(caps.map(|cap| cap[0]).eq(1..=5));
+        assert_eq!(totals_in(&bytes), [0; TOTALS]);
         let due = format!("{HEADER_SIZE} bytes, {header:?}");
         assert_eq!(described(&bytes), due);
+    }
+
+    #[test]
+    fn a_header_with_totals() {
+        let mut header = Header::opened(SHORTEST_LEDGER, [1, 2, 3, 4, 5]);
+        header.totals = [6, 7, 8, 0x0a0b_0c0d];
+        let bytes = header.encode();
+        let due = [6, 0, 0, 0, 7, 0, 0, 0, 8, 0, 0, 0, 0x0d, 0x0c, 0x0b, 0x0a];
+        assert_eq!(bytes[TOTALS_IN_HEADER], due);
+        assert_eq!(totals_in(&bytes), header.totals);
+        let due = format!("{HEADER_SIZE} bytes, {header:?}");
+        assert_eq!(described(&bytes), due);
+    }
+
+    #[test]
+    fn rows_are_counted_by_their_status() {
+        let row = |status| Row {
+            status,
+            ..Row::new(b"", 1, [b' '; TERMS_SIZE])
+        };
+        let mut header = Header::opened(SHORTEST_LEDGER, [1, 2, 3, 4, 5]);
+        header.count(&[4, 1, 2, 1, 3, 1, 2, 3, 1, 3].map(row));
+        assert_eq!((header.rows, header.totals), (10, [4, 2, 3, 1]));
+        for (place, status) in ROW_STATUSES.into_iter().enumerate() {
+            assert_eq!(total_place(status), place);
+        }
     }
 
     #[test]

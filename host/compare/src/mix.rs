@@ -10,6 +10,7 @@ use crate::lists::ACTIONS;
 use crate::random::Random;
 use crate::tally::Tally;
 use crate::values;
+use sdr::ACCEPTED;
 
 /// After so many submissions another ledger is opened.
 const LIFE: u64 = 400;
@@ -48,7 +49,7 @@ impl Mix {
         tally
     }
 
-    /// Makes one submission and asks one status.
+    /// Makes one submission and asks for one status or for the totals.
     pub fn step(&mut self) -> Result<(), Mismatch> {
         if self.steps.is_multiple_of(LIFE) {
             self.open()?;
@@ -95,6 +96,18 @@ impl Mix {
                 "the model says otherwise",
             ));
         }
+        self.ask_long()
+    }
+
+    /// A question about the ledger of the life cycle, held to the model.
+    fn ask_long(&mut self) -> Result<(), Mismatch> {
+        if self.random.once_in(4) {
+            let answer = self.long.try_totals()?;
+            if (answer.verdict, answer.totals) != (ACCEPTED, self.model.header.totals) {
+                return Err(Mismatch::new(&[], answer, "the model says otherwise"));
+            }
+            return Ok(());
+        }
         let uti = self.random.pick(&self.utis);
         let answer = self.long.try_status(uti)?;
         let due = (self.model.status(uti), self.model.identifier(uti));
@@ -130,12 +143,16 @@ impl Mix {
         self.submit_single(&bytes)
     }
 
-    /// The ledger of the life cycle with some bytes changed.
+    /// The ledger of the life cycle with some bytes changed, or some totals.
     fn flipped_ledger(&mut self) -> Result<(), Mismatch> {
         let message = next_message(&mut self.random, &self.model, &self.utis);
         let mut ledger = self.long.ledger().to_vec();
         let used = layout::ledger_size(self.model.rows.len());
-        garbage::flip(&mut self.random, &mut ledger[..used]);
+        if self.random.once_in(3) {
+            garbage::shift_totals(&mut self.random, &mut ledger);
+        } else {
+            garbage::flip(&mut self.random, &mut ledger[..used]);
+        }
         self.single.set_ledger(&ledger);
         self.submit_single(&message.encode())
     }
@@ -164,8 +181,12 @@ impl Mix {
     }
 
     fn ask_single(&mut self) -> Result<(), Mismatch> {
-        let uti = self.random.pick(&self.utis);
-        self.single.try_status(uti)?;
+        if self.random.once_in(4) {
+            self.single.try_totals()?;
+        } else {
+            let uti = self.random.pick(&self.utis);
+            self.single.try_status(uti)?;
+        }
         Ok(())
     }
 }

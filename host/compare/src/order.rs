@@ -12,6 +12,9 @@ pub const SUBMITTING: [u8; 17] = [3, 4, 5, 6, 7, 8, 9, 10, 11, 19, 12, 13, 14, 1
 /// The rules of a status question.
 pub const ASKING: [u8; 3] = [3, 9, 14];
 
+/// The rules of a totals question.
+pub const TOTALS: [u8; 1] = [3];
+
 /// The rules of a submission that name an element.
 pub const NAMING_AN_ELEMENT: [u8; 5] = [6, 7, 8, 9, 11];
 
@@ -75,6 +78,7 @@ mod tests {
         assert_eq!(listed("sdr_open"), OPENING);
         assert_eq!(listed("sdr_submit"), SUBMITTING);
         assert_eq!(listed("sdr_status"), ASKING);
+        assert_eq!(listed("sdr_totals"), TOTALS);
     }
 
     #[test]

@@ -17,7 +17,7 @@ pub struct Tally {
     pub openings: u64,
     /// Messages submitted.
     pub submissions: u64,
-    /// Statuses asked.
+    /// Questions for a status or for the totals.
     pub questions: u64,
     answers: [[u64; CODES]; VERDICTS],
 }
@@ -46,7 +46,7 @@ impl Tally {
         self.count(answer);
     }
 
-    /// Counts a status question, whose verdicts are not those of submissions.
+    /// Counts a question, whose verdicts are not those of submissions.
     pub fn question(&mut self) {
         self.questions += 1;
     }

@@ -3,7 +3,7 @@
 use crate::codes::{CURRENCIES, LOCATIONS};
 use crate::layout::{Caps, Num, DATE_SIZE, DAY_CAPS, LARGEST_CAP, LEI_BODY_SIZE, LINE_SIZE};
 use crate::layout::{LONGEST_PACKAGE_IDENTIFIER, NOTIONAL_NUM};
-use crate::layout::{NOTIONAL_SIZE, SHORTEST_UTI, SMALLEST_CAP, UTI_SIZE};
+use crate::layout::{NOTIONAL_SIZE, SHORTEST_UTI, SMALLEST_CAP, TOTALS, UTI_SIZE};
 use crate::lists::{BANDS, CLASSES, LARGEST_STEP};
 use crate::random::Random;
 use crate::terms::{masked, rounded, shown_price, UNIT};
@@ -346,4 +346,13 @@ pub fn caps(random: &mut Random) -> Caps {
         ],
         _ => std::array::from_fn(|_| cap(random)),
     }
+}
+
+/// Totals that add up to so many rows.
+pub fn totals(random: &mut Random, rows: u32) -> [u32; TOTALS] {
+    let mut totals = [0; TOTALS];
+    for _ in 0..rows {
+        totals[random.below(TOTALS)] += 1;
+    }
+    totals
 }

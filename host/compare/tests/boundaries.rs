@@ -730,11 +730,11 @@ fn rows_up_to_capacity() {
 fn in_use(next: u64, identifier: u64) -> Vec<u8> {
     let mut ledger = vec![0xee; ledger_size(2)];
     let mut header = Header::opened(ledger.len(), CAPS);
-    header.rows = 1;
     header.next = next;
     let terms = terms_of(&plain_new(), &CAPS);
-    let row = Row::new(plain_new().value(1), identifier, terms);
-    layout::write(&mut ledger, &header, &[row]);
+    let rows = [Row::new(plain_new().value(1), identifier, terms)];
+    header.count(&rows);
+    layout::write(&mut ledger, &header, &rows);
     ledger
 }
 
@@ -876,11 +876,11 @@ fn lengths_of_a_tape_buffer() {
 fn with_rows(capacity: usize, rows: u64) -> Vec<u8> {
     let mut ledger = vec![0xee; ledger_size(capacity)];
     let mut header = Header::opened(ledger.len(), CAPS);
-    header.rows = rows as u32;
     header.next = 200_000;
     let terms = terms_of(&plain_new(), &CAPS);
     let row = |n: u64| Row::new(swap(n).value(1), n + 1, terms);
     let rows: Vec<Row> = (0..rows).map(row).collect();
+    header.count(&rows);
     layout::write(&mut ledger, &header, &rows);
     ledger
 }
@@ -893,6 +893,7 @@ fn rows_in_use_that_carry() {
         assert_eq!(answer.identifier, 200_000);
         let raised = layout::u32_at(compared.ledger(), ROWS_IN_HEADER);
         assert_eq!(u64::from(raised), rows + 1);
+        assert_eq!(layout::totals_in(compared.ledger()), [raised, 0, 0, 0]);
         let row = &compared.ledger()[row_range(rows as usize)];
         assert_eq!(row[UTI_IN_ROW].trim_ascii_end(), swap(rows).value(1));
     }

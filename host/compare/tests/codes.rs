@@ -1,11 +1,12 @@
 //! Currencies and locations: the codes of the lists in data/ are accepted, and
-//! nothing else is. What is due comes from these lists or is written by hand;
-//! offsets are by hand too.
+//! nothing else is. What is due comes from these lists or is written by hand.
 
 use compare::codes::{of_capitals, CURRENCIES, LOCATIONS};
 use compare::compared::Compared;
 use compare::layout::{self, ledger_size, row_range, Header, Row, DAY_CAPS, LINE_SIZE};
-use compare::layout::{IDENTIFIER_LIMIT, SHORTEST_LEDGER};
+use compare::layout::{IDENTIFIER_LIMIT, LOCATION_IN_LINE, NOTIONAL_CURRENCY_IN_LINE};
+use compare::layout::{PRICE_CURRENCY_IN_LINE, SHORTEST_LEDGER, SPREAD_CURRENCY_IN_LINE};
+use compare::layout::{TERMS_IN_LINE, TERMS_IN_ROW};
 use compare::lists::codes_with_a_form;
 use compare::malformed;
 use compare::message::{readable, Message};
@@ -15,14 +16,13 @@ use compare::submissions;
 use compare::terms::terms_of;
 use std::ops::Range;
 
-// The columns of a line.
-const PRICE_CURRENCY: Range<usize> = 118..121;
-const NOTIONAL_CURRENCY: Range<usize> = 140..143;
-const LOCATION: Range<usize> = 143..145;
-const SPREAD_CURRENCY: Range<usize> = 166..169;
-/// Notional currency and location in the line, and in the row.
-const BOTH: Range<usize> = 140..145;
-const BOTH_OF_ROW: Range<usize> = 150..155;
+/// Notional currency and location in the line.
+const BOTH: Range<usize> = NOTIONAL_CURRENCY_IN_LINE.start..LOCATION_IN_LINE.end;
+/// So many bytes further back than in the line the masked terms stand in the
+/// row.
+const FURTHER: usize = TERMS_IN_ROW.start - TERMS_IN_LINE.start;
+/// Notional currency and location in the row.
+const BOTH_OF_ROW: Range<usize> = BOTH.start + FURTHER..BOTH.end + FURTHER;
 
 /// How many codes the lists have.
 const CURRENCY_COUNT: usize = 180;
@@ -65,9 +65,9 @@ impl Place {
     /// A place of a currency.
     fn currency(name: &'static str, element: u8, message: Message) -> Place {
         let column = match element {
-            19 => PRICE_CURRENCY,
-            21 => NOTIONAL_CURRENCY,
-            _ => SPREAD_CURRENCY,
+            19 => PRICE_CURRENCY_IN_LINE,
+            21 => NOTIONAL_CURRENCY_IN_LINE,
+            _ => SPREAD_CURRENCY_IN_LINE,
         };
         Place {
             name,
@@ -184,7 +184,7 @@ fn location() -> Place {
         message: plain_new(),
         element: 22,
         list: &LOCATIONS,
-        column: LOCATION,
+        column: LOCATION_IN_LINE,
         counts: true,
     }
 }
@@ -453,8 +453,8 @@ fn offshore_yuan() {
     // Nothing asks for the location.
     assert_eq!(judged(&yuan.without(22)), (0, 0));
     for (quoted, element, column) in [
-        (plain_package("1", "7.25"), 19, PRICE_CURRENCY),
-        (plain_spread("1", "-0.05"), 28, SPREAD_CURRENCY),
+        (plain_package("1", "7.25"), 19, PRICE_CURRENCY_IN_LINE),
+        (plain_spread("1", "-0.05"), 28, SPREAD_CURRENCY_IN_LINE),
     ] {
         let yuan = quoted.with(21, "CNY").with(22, "HK").with(element, "CNY");
         let mut compared = opened();
@@ -532,11 +532,11 @@ fn codes_over_the_life_of_a_swap() {
 /// with this notional currency and location.
 fn in_use(rows: usize, currency: &str, location: &str) -> (Header, Row) {
     let mut header = Header::opened(ledger_size(rows), DAY_CAPS);
-    header.rows = 1;
     header.next = 9;
     let message = plain_new().with(21, currency).with(22, location);
-    let terms = terms_of(&message, &DAY_CAPS);
-    (header, Row::new(message.value(1), 3, terms))
+    let row = Row::new(message.value(1), 3, terms_of(&message, &DAY_CAPS));
+    header.count(std::slice::from_ref(&row));
+    (header, row)
 }
 
 /// Lends a ledger with this header and row, and a tape buffer of a line.
@@ -653,6 +653,12 @@ fn refused_behind_9() -> Vec<(Message, Due)> {
     ]
 }
 
+/// The swap is closed, and counted so.
+fn close(header: &mut Header, row: &mut Row) {
+    row.status = sdr::CLOSED;
+    header.count(std::slice::from_ref(row));
+}
+
 #[test]
 fn codes_come_before_the_rules_behind_9() {
     for (message, due) in refused_behind_9() {
@@ -671,7 +677,7 @@ fn codes_come_before_the_rules_behind_9() {
     let later = modi.with(6, "2024-03-01T10:15:31Z");
     for (ledger, message, due) in [
         (stored(|_, row| row.identifier = 0), modi.clone(), 14),
-        (stored(|_, row| row.status = sdr::CLOSED), modi, 15),
+        (stored(close), modi, 15),
         (stored(|_, _| ()), plain_new(), 15),
         (stored(|_, _| ()), later, 16),
         (in_use(1, "USD", "US"), swap(2), 17),

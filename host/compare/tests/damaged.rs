@@ -8,7 +8,7 @@ use compare::layout::{IDENTIFIER_LIMIT, LARGEST_CAPACITY, LINE_SIZE, PREVIOUS_IN
 use compare::layout::{
     LARGEST_CAP, SHORTEST_UTI, SMALLEST_CAP, TAIL_SIZE, TERMS_IN_LINE, UTI_SIZE,
 };
-use compare::layout::{ROW_SIZE, SHORTEST_LEDGER};
+use compare::layout::{ROW_SIZE, SHORTEST_LEDGER, TOTALS};
 use compare::lists::CLASSES;
 use compare::malformed;
 use compare::message::Message;
@@ -16,16 +16,23 @@ use compare::random::Random;
 use compare::sound::{plain_new, plain_short};
 use compare::terms::terms_of;
 use compare::{submissions, values};
-use sdr::{Answer, CLOSED, ERRORED, LIVE, UNKNOWN};
+use sdr::{Answer, CLOSED, ERRORED, LIVE, PORTED, UNKNOWN};
 
 const CAPS: Caps = [1_000, 250_000_000, 100_000, 1_000_000_000, 150_000_000_000];
 const NEXT: u64 = 40;
 
+/// The header of a ledger with the three rows.
 fn header(length: usize) -> Header {
     let mut header = Header::opened(length, CAPS);
-    header.rows = 3;
     header.next = NEXT;
+    in_use(&mut header, 3);
     header
+}
+
+/// So many rows in use, all of them live.
+fn in_use(header: &mut Header, rows: u32) {
+    header.rows = rows;
+    header.totals = [rows, 0, 0, 0];
 }
 
 fn rows() -> Vec<Row> {
@@ -54,11 +61,14 @@ fn changed() -> Message {
     plain_new().with(2, "MODI").with(21, "EUR")
 }
 
-/// The verdicts of a submission and of a status question.
+/// The verdicts of a submission and of a status question. The totals question
+/// gets 3 where these do, and else 0.
 fn verdicts(ledger: &[u8]) -> (u8, u8) {
     let mut compared = lent(ledger);
     let asked = compared.status(plain_new().value(1)).verdict;
+    let totals = compared.totals().verdict;
     let submitted = compared.submit(&changed().encode()).verdict;
+    assert_eq!(totals, if asked == 3 { 3 } else { 0 });
     (submitted, asked)
 }
 
@@ -79,40 +89,56 @@ fn other_sizes(size: usize) -> Vec<u32> {
     others.map(|other| other as u32).collect()
 }
 
+/// The length of a ledger of five rows and some bytes more.
+const LENGTH: usize = ledger_size(5) + 9;
+
+/// A sound header with this change gets 3.
+fn refused(change: impl Fn(&mut Header)) {
+    let mut header = header(LENGTH);
+    change(&mut header);
+    let ledger = ledger_of(&header, &rows(), LENGTH);
+    assert_eq!(verdicts(&ledger), (3, 3), "{header:?}");
+}
+
 #[test]
 fn each_field_of_the_header() {
-    let length = ledger_size(5) + 9;
-    let sound = header(length);
-    assert_eq!(verdicts(&ledger_of(&sound, &rows(), length)), (0, 0));
-    let mut damaged: Vec<Header> = Vec::new();
-    let mut add = |change: &dyn Fn(&mut Header)| {
-        let mut header = sound.clone();
-        change(&mut header);
-        damaged.push(header);
-    };
+    let sound = ledger_of(&header(LENGTH), &rows(), LENGTH);
+    assert_eq!(verdicts(&sound), (0, 0));
     for rows in [6, 7, 256, 1 << 24, u32::MAX] {
-        add(&|header| header.rows = rows);
+        refused(|header| in_use(header, rows));
     }
     for first in other_sizes(HEADER_SIZE) {
-        add(&|header| header.first_row = first);
+        refused(|header| header.first_row = first);
     }
     for next in [0, IDENTIFIER_LIMIT + 1, 1 << 40, 1 << 63, u64::MAX] {
-        add(&|header| header.next = next);
+        refused(|header| header.next = next);
     }
     for row_size in other_sizes(ROW_SIZE) {
-        add(&|header| header.row_size = row_size);
+        refused(|header| header.row_size = row_size);
     }
     for capacity in [0, 3, 4, 6, 5 << 8, LARGEST_CAPACITY as u32, u32::MAX] {
-        add(&|header| header.capacity = capacity);
+        refused(|header| header.capacity = capacity);
     }
     for class in 0..CLASSES.len() {
         for cap in malformed::CAPS {
-            add(&|header| header.caps[class] = cap);
+            refused(|header| header.caps[class] = cap);
         }
     }
-    for header in damaged {
-        let ledger = ledger_of(&header, &rows(), length);
-        assert_eq!(verdicts(&ledger), (3, 3), "{header:?}");
+}
+
+/// Three rows are in use, all of them live.
+#[test]
+fn totals_that_do_not_add_up() {
+    for rows in [0, 1, 2, 4, 5, 6, 3 << 8, 3 << 24, u32::MAX] {
+        refused(|header| header.rows = rows);
+    }
+    for live in [0, 1, 2, 4, 5, 3 << 8, 3 << 24, 3 | 1 << 31, u32::MAX] {
+        refused(|header| header.totals[0] = live);
+    }
+    for place in 1..TOTALS {
+        for total in [1, 2, 3, 1 << 8, 1 << 16, 1 << 31, u32::MAX] {
+            refused(|header| header.totals[place] = total);
+        }
     }
 }
 
@@ -136,10 +162,16 @@ fn headers_that_look_odd_and_are_sound() {
     }
     // No row in use: the swap is unknown.
     let mut empty = header(length);
-    empty.rows = 0;
+    in_use(&mut empty, 0);
     assert_eq!(verdicts(&ledger_of(&empty, &rows(), length)), (15, 0));
-    empty.rows = 1;
+    in_use(&mut empty, 1);
     assert_eq!(verdicts(&ledger_of(&empty, &rows(), length)), (15, 0));
+    // Totals that are no count of the rows: nobody counts.
+    for totals in [[2, 1, 0, 0], [1, 0, 2, 0], [1, 0, 0, 2], [1, 1, 1, 0]] {
+        let mut other = header(length);
+        other.totals = totals;
+        assert_eq!(verdicts(&ledger_of(&other, &rows(), length)), (0, 0));
+    }
 }
 
 #[test]
@@ -166,21 +198,21 @@ fn a_ledger_lent_shorter_or_longer() {
 /// Rows had 160 bytes before they had room for a spread.
 #[test]
 fn a_ledger_with_rows_of_160_bytes() {
-    // 864 bytes are a header and 5 rows of 160 bytes, or 4 rows of 184 bytes
+    // 880 bytes are a header and 5 rows of 160 bytes, or 4 rows of 184 bytes
     // and 64 more.
     for (length, row_size, capacity, due) in [
-        (864, 184, 4, (0, 0)),
-        (864, 160, 5, (3, 3)),
-        (864, 160, 4, (3, 3)),
-        (864, 184, 5, (3, 3)),
+        (880, 184, 4, (0, 0)),
+        (880, 160, 5, (3, 3)),
+        (880, 160, 4, (3, 3)),
+        (880, 184, 5, (3, 3)),
         // The shortest ledgers: of two sizes, with room for one row.
-        (248, 184, 1, (15, 0)),
-        (248, 160, 1, (3, 3)),
-        (224, 160, 1, (3, 3)),
-        (224, 184, 1, (3, 3)),
+        (264, 184, 1, (15, 0)),
+        (264, 160, 1, (3, 3)),
+        (240, 160, 1, (3, 3)),
+        (240, 184, 1, (3, 3)),
     ] {
         let mut header = header(length);
-        header.rows = header.rows.min(capacity);
+        in_use(&mut header, capacity.min(3));
         header.row_size = row_size;
         header.capacity = capacity;
         let ledger = ledger_of(&header, &rows(), length);
@@ -190,8 +222,8 @@ fn a_ledger_with_rows_of_160_bytes() {
             "{length} bytes, {row_size}, {capacity}"
         );
     }
-    // The shortest ledger of old is too short to be opened.
-    for (length, due) in [(224, 1), (247, 1), (248, 0)] {
+    // A header and a row of 160 bytes are too short to be opened.
+    for (length, due) in [(240, 1), (263, 1), (264, 0)] {
         let mut compared = lent(&vec![0xee; length]);
         assert_eq!(compared.open(&CAPS).verdict, due, "{length}");
     }
@@ -213,6 +245,11 @@ fn rows_with_a_wrong_status_or_identifier() {
             (14, 14),
             "{status}"
         );
+    }
+    // None of the other statuses has a total.
+    for status in [CLOSED, ERRORED, PORTED] {
+        let change = |row: &mut Row| row.status = status;
+        assert_eq!(verdicts_with(change), (14, 14), "{status}");
     }
     for identifier in [0, NEXT, NEXT + 1, 1 << 40, u64::MAX] {
         let change = |row: &mut Row| row.identifier = identifier;
@@ -252,7 +289,7 @@ fn rows_with_another_length_are_not_the_swap_s() {
 #[test]
 fn every_byte_of_a_uti_is_compared() {
     let mut header = header(SHORTEST_LEDGER);
-    header.rows = 1;
+    in_use(&mut header, 1);
     for size in [SHORTEST_UTI, UTI_SIZE] {
         let uti = vec![b'A'; size];
         let row = Row::new(&uti, 7, terms_of(&plain_new(), &CAPS));
@@ -292,12 +329,14 @@ fn a_change_leaves_padding_and_tail() {
     rows[1].tail = [9; TAIL_SIZE];
     rows[1].terms[EXECUTION_IN_TERMS.end..].fill(0xff);
     rows[1].status = CLOSED;
-    for (message, status) in [
-        (plain_new().with(2, "CORR").without(3), CLOSED),
-        (plain_new().with(2, "REVI").without(3), LIVE),
-        (plain_short("EROR", None), ERRORED),
+    let mut before = header(length);
+    before.totals = [2, 1, 0, 0];
+    for (message, status, totals) in [
+        (plain_new().with(2, "CORR").without(3), CLOSED, [2, 1, 0, 0]),
+        (plain_new().with(2, "REVI").without(3), LIVE, [3, 0, 0, 0]),
+        (plain_short("EROR", None), ERRORED, [2, 0, 1, 0]),
     ] {
-        let mut compared = lent(&ledger_of(&header(length), &rows, length));
+        let mut compared = lent(&ledger_of(&before, &rows, length));
         assert_eq!(compared.submit(&message.encode()).identifier, NEXT);
         let mut due = rows.clone();
         due[1].status = status;
@@ -305,9 +344,10 @@ fn a_change_leaves_padding_and_tail() {
         if message.has(6) {
             due[1].terms = terms_of(&message, &CAPS);
         }
-        let mut raised = header(length);
-        raised.next += 1;
-        assert_eq!(compared.ledger(), ledger_of(&raised, &due, length));
+        let mut after = before.clone();
+        after.next += 1;
+        after.totals = totals;
+        assert_eq!(compared.ledger(), ledger_of(&after, &due, length));
         assert_eq!(compared.tape()[TERMS_IN_LINE], due[1].terms);
     }
 }
@@ -320,8 +360,9 @@ fn the_first_of_two_rows_with_one_uti_counts() {
     rows[1].status = CLOSED;
     rows[1].identifier = 11;
     rows[2].identifier = 12;
-    let ledger = ledger_of(&header(length), &rows, length);
-    let mut compared = lent(&ledger);
+    let mut header = header(length);
+    header.totals = [2, 1, 0, 0];
+    let mut compared = lent(&ledger_of(&header, &rows, length));
     let answer = compared.status(plain_new().value(1));
     assert_eq!((answer.status, answer.identifier), (CLOSED, 11));
     assert_eq!(compared.submit(&changed().encode()).verdict, 15);
@@ -331,7 +372,7 @@ fn the_first_of_two_rows_with_one_uti_counts() {
     assert_eq!(compared.ledger()[layout::row_range(2)], rows[2].encode());
     // A wrong first row is 14, though the second is sound.
     rows[1].status = 0;
-    let mut compared = lent(&ledger_of(&header(length), &rows, length));
+    let mut compared = lent(&ledger_of(&header, &rows, length));
     let refused = Answer {
         verdict: 14,
         ..Answer::default()
@@ -378,6 +419,7 @@ fn bytes_of_the_ledger_changed_at_random() {
             let message = next_message(&mut random, &model, &utis);
             compared.submit(&message.encode());
             compared.status(message.value(1));
+            compared.totals();
         }
     }
     println!("changed ledgers: {}", compared.tally);

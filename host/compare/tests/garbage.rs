@@ -14,16 +14,21 @@ use compare::{submissions, values};
 fn noise_in_all_buffers() {
     let mut random = Random::for_test(501);
     let mut compared = Compared::new();
+    let mut counted = 0;
     for _ in 0..submissions(25_000) {
         compared.set_ledger(&noise_ledger(&mut random));
         compared.set_tape(&noise(&mut random, 300));
         compared.submit(&noise(&mut random, LONGEST_MESSAGE + 50));
         compared.status(&noise(&mut random, 60));
+        counted += u64::from(compared.totals().verdict == 0);
     }
     println!("noise: {}", compared.tally);
     for verdict in [3, 4, 5] {
         assert!(compared.tally.verdict(verdict) > 0, "verdict {verdict}");
     }
+    // Every second header is sound.
+    let submissions = compared.tally.submissions;
+    assert!((submissions / 3..submissions * 2 / 3).contains(&counted));
 }
 
 /// Noise, or noise behind a sound header.
@@ -35,6 +40,7 @@ fn noise_ledger(random: &mut Random) -> Vec<u8> {
     let mut ledger = random.bytes(length);
     let mut header = Header::opened(length, values::caps(random));
     header.rows = random.below(header.capacity as usize + 1) as u32;
+    header.totals = values::totals(random, header.rows);
     header.next = 1 + random.bits() % IDENTIFIER_LIMIT;
     ledger[..HEADER_SIZE].copy_from_slice(&header.encode());
     ledger

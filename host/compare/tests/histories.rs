@@ -144,6 +144,8 @@ fn tapes_of_agreeing_histories_are_equal() {
         let second = run(&mut compared, &second);
         assert_eq!(broken_premises(&first, &second), []);
         assert!(first.tape == second.tape, "tapes differ in pair {pairs}");
+        assert_eq!(first.totals, second.totals);
+        assert_eq!(first.totals.totals.iter().sum::<u32>(), new_swaps(&first));
         pairs += 1;
         lines += first.tape.len() / LINE_SIZE;
         let differ = |place: &usize| first.messages[*place] != second.messages[*place];
@@ -159,6 +161,13 @@ fn tapes_of_agreeing_histories_are_equal() {
     assert!(lines > 5 * pairs && different > 20 * pairs);
     // There are some in most pairs, with other values on each side.
     assert!(silent > pairs / 2, "{silent} in {pairs} pairs");
+}
+
+/// How many NEWT messages were accepted.
+fn new_swaps(run: &Run) -> u32 {
+    let accepted = (0..run.verdicts.len()).filter(|&place| run.verdicts[place] == 0);
+    let new = accepted.filter(|&place| run.message(place).text(ACTION_TYPE) == "NEWT");
+    new.count() as u32
 }
 
 /// The places of the MODI messages that were accepted and wrote no line.

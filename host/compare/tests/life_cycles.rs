@@ -62,7 +62,8 @@ impl Ledger {
         ledger
     }
 
-    /// Submits one message, holds both to the model, asks two statuses.
+    /// Submits one message, holds both to the model, asks two statuses and the
+    /// totals.
     fn step(&mut self, random: &mut Random, met: &mut Met) {
         let message = next_message(random, &self.model, &self.utis);
         let tape = tape_before(random);
@@ -82,6 +83,11 @@ impl Ledger {
         self.ask(message.value(1));
         let other = random.pick(&self.utis).clone();
         self.ask(&other);
+        let totals = self.compared.totals();
+        assert_eq!(
+            (totals.verdict, totals.totals),
+            (0, self.model.header.totals)
+        );
         met.note(&message, status, answer);
     }
 

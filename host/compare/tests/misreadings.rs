@@ -5,7 +5,7 @@ use compare::compared::Compared;
 use compare::layout::{row_range, u32_at, u64_at, IDENTIFIER_LIMIT, LARGEST_CAP, LINE_SIZE};
 use compare::layout::{ACTION_IN_LINE, NEWLINE_IN_LINE, NOTIONAL_IN_LINE, PLUS_IN_LINE};
 use compare::layout::{IDENTIFIER_IN_ROW, STATUS_IN_ROW, TERMS_IN_LINE, TERMS_IN_ROW};
-use compare::layout::{NEXT_IN_HEADER, ROWS_IN_HEADER};
+use compare::layout::{NEXT_IN_HEADER, ROWS_IN_HEADER, TOTALS_IN_HEADER};
 use compare::lists::CLASSES;
 use compare::sound::{plain_new, plain_short, swap};
 use sdr::{ERRORED, LIVE};
@@ -142,10 +142,12 @@ fn spent_identifiers_are_found_before_the_row_is_written() {
         assert_eq!(compared.tape(), [b'x'; LINE_SIZE]);
     }
 
-    // PRTO writes no line and is still accepted: only the status changes.
+    // PRTO writes no line and is still accepted: only the status changes, and
+    // with it the totals.
     let answer = compared.submit(&plain_short("PRTO", Some("PTNG")).encode());
     assert_eq!((answer.verdict, answer.identifier), (0, 0));
     ledger[row_range(0)][STATUS_IN_ROW] = sdr::PORTED;
+    ledger[TOTALS_IN_HEADER].copy_from_slice(&[0, 0, 0, 0, 0, 0, 0, 0, 0, 0, 0, 0, 1, 0, 0, 0]);
     assert_eq!(compared.ledger(), ledger);
     assert_eq!(compared.tape(), [b'x'; LINE_SIZE]);
 }

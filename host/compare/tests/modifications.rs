@@ -90,6 +90,15 @@ struct Line<'a> {
     status: u8,
 }
 
+/// Writes another status into the first row, and moves one from the total of
+/// the old status to that of the new one.
+fn change_status(ledger: &mut [u8], status: u8) {
+    let total = |status: u8| TOTALS_IN_HEADER.start + U32_SIZE * total_place(status);
+    ledger[total(ledger[ROW + STATUS_IN_ROW])] -= 1;
+    ledger[total(status)] += 1;
+    ledger[ROW + STATUS_IN_ROW] = status;
+}
+
 /// Submits a message about the first row's swap that writes this line, and
 /// holds every byte of tape buffer and ledger to it.
 fn check_line(compared: &mut Compared, message: &Message, due: &Line) {
@@ -121,8 +130,8 @@ fn check_line(compared: &mut Compared, message: &Message, due: &Line) {
         "{message:?}"
     );
     ledger[NEXT_IN_HEADER].copy_from_slice(&(due.identifier + 1).to_le_bytes());
+    change_status(&mut ledger, due.status);
     let row = &mut ledger[ROW..];
-    row[STATUS_IN_ROW] = due.status;
     row[IDENTIFIER_IN_ROW].copy_from_slice(&due.identifier.to_le_bytes());
     row[TERMS_IN_ROW].copy_from_slice(due.terms.as_bytes());
     assert!(compared.ledger() == ledger, "{message:?}");
@@ -592,9 +601,9 @@ fn other_actions_repeat_the_terms_with_a_line() {
     // A new swap with the terms of another has its line.
     let answer = compared.submit(&swap(2).encode());
     assert_eq!((answer.verdict, answer.identifier), (0, 12));
-    // PRTO changes the status alone and has none.
+    // PRTO changes the status alone, with its totals, and has none.
     let mut ledger = compared.ledger().to_vec();
-    ledger[ROW + STATUS_IN_ROW] = 4;
+    change_status(&mut ledger, 4);
     let ported = compared.submit(&plain_short("PRTO", Some("PTNG")).encode());
     assert_eq!(ported, Answer::default());
     assert_eq!(compared.ledger(), ledger);
@@ -727,30 +736,44 @@ fn refusals_come_first() {
             check_refused(&mut compared, &message, verdict, element);
         }
         check_silent(&mut compared, &modi(&same));
-        // Bytes of the ledger that break 3, 14 or 15.
         let sound = compared.ledger().to_vec();
-        let (status, identifier) = (ROW + STATUS_IN_ROW, ROW + IDENTIFIER_IN_ROW.start);
-        for (at, bytes, verdict) in [
-            (0, &3_u32.to_le_bytes()[..], 3),
-            (
-                NEXT_IN_HEADER.start,
-                &(IDENTIFIER_LIMIT + 1).to_le_bytes(),
-                3,
-            ),
-            (CAPS_IN_HEADER.start, &251_000_000_u64.to_le_bytes(), 3),
-            (status, &[0], 14),
-            (status, &[5], 14),
-            (identifier, &0_u64.to_le_bytes(), 14),
-            (identifier, &next.to_le_bytes(), 14),
-            (status, &[2], 15),
-            (status, &[3], 15),
-            (status, &[4], 15),
-        ] {
+        for (at, bytes, verdict) in damages(next) {
             compared.set_ledger(&sound);
-            damage(&mut compared, at, bytes);
+            damage(&mut compared, at, &bytes);
             check_refused(&mut compared, &modi(&same), verdict, 0);
         }
+        for status in [2, 3, 4] {
+            let mut ledger = sound.clone();
+            change_status(&mut ledger, status);
+            compared.set_ledger(&ledger);
+            check_refused(&mut compared, &modi(&same), 15, 0);
+        }
     }
+}
+
+/// Bytes of a ledger with this next identifier that break 3 or 14, and where
+/// they stand.
+fn damages(next: u64) -> Vec<(usize, Vec<u8>, u8)> {
+    let (status, identifier) = (ROW + STATUS_IN_ROW, ROW + IDENTIFIER_IN_ROW.start);
+    let after_last = (IDENTIFIER_LIMIT + 1).to_le_bytes();
+    let damages: [(usize, &[u8], u8); 13] = [
+        (ROWS_IN_HEADER.start, &[3], 3),
+        (ROWS_IN_HEADER.start, &[2], 3),
+        (TOTALS_IN_HEADER.start, &[2], 3),
+        (NEXT_IN_HEADER.start, &after_last, 3),
+        (CAPS_IN_HEADER.start, &251_000_000_u64.to_le_bytes(), 3),
+        (status, &[0], 14),
+        (status, &[5], 14),
+        // No swap is counted under these statuses.
+        (status, &[2], 14),
+        (status, &[3], 14),
+        (status, &[4], 14),
+        (identifier, &0_u64.to_le_bytes(), 14),
+        (identifier, &next.to_le_bytes(), 14),
+        (identifier, &u64::MAX.to_le_bytes(), 14),
+    ];
+    let owned = damages.map(|(at, bytes, verdict)| (at, bytes.to_vec(), verdict));
+    owned.to_vec()
 }
 
 /// The tape buffer has to take a line, though none is written.

@@ -1,8 +1,10 @@
 //! Packages: quoted by a price or by a spread, each with its notation and
-//! currency. What is expected is derived by hand, offsets too.
+//! currency. What is expected is derived by hand.
 
 use compare::compared::Compared;
-use compare::layout::{row_range, u64_at, DAY_CAPS};
+use compare::layout::{row_range, u64_at, DAY_CAPS, IDENTIFIER_IN_ROW, NEWLINE_IN_LINE};
+use compare::layout::{PRICE_CURRENCY_IN_LINE, PRICE_IN_LINE, SPREAD_CURRENCY_IN_LINE};
+use compare::layout::{SPREAD_IN_LINE, TAIL_IN_ROW, TAIL_SIZE, TERMS_IN_LINE, TERMS_IN_ROW};
 use compare::message::Message;
 use compare::sound::{plain_new, plain_package, plain_short, plain_spread};
 use compare::terms::terms_of;
@@ -10,14 +12,8 @@ use std::ops::Range;
 
 // The columns of a line: price, notation and currency, then spread, notation
 // and currency.
-const PRICE_COLUMNS: Range<usize> = 97..121;
-const SPREAD_COLUMNS: Range<usize> = 145..169;
-/// The masked terms in the line, and in the row.
-const TERMS: Range<usize> = 52..169;
-const TERMS_OF_ROW: Range<usize> = 62..179;
-/// The identifier in the row, and the zeros that end the row.
-const IDENTIFIER_OF_ROW: Range<usize> = 54..62;
-const TAIL_OF_ROW: Range<usize> = 179..184;
+const PRICE_COLUMNS: Range<usize> = PRICE_IN_LINE.start..PRICE_CURRENCY_IN_LINE.end;
+const SPREAD_COLUMNS: Range<usize> = SPREAD_IN_LINE.start..SPREAD_CURRENCY_IN_LINE.end;
 
 /// Verdict and element.
 type Due = (u8, u8);
@@ -177,8 +173,8 @@ fn check_accepted(compared: &Compared, message: &Message) {
     assert_eq!(line[PRICE_COLUMNS], *price.as_bytes());
     assert_eq!(line[SPREAD_COLUMNS], *spread.as_bytes());
     let row = &compared.ledger()[row_range(0)];
-    assert_eq!(row[TERMS_OF_ROW], *due.as_bytes());
-    assert_eq!(row[TAIL_OF_ROW], [0; 5]);
+    assert_eq!(row[TERMS_IN_ROW], *due.as_bytes());
+    assert_eq!(row[TAIL_IN_ROW], [0; TAIL_SIZE]);
     assert_eq!(terms_of(message, &DAY_CAPS), due.as_bytes());
 }
 
@@ -504,12 +500,12 @@ fn short_messages_take_no_spread() {
 fn check_step(compared: &mut Compared, message: &Message, identifier: u64, due: &str) {
     let answer = compared.submit(&message.encode());
     assert_eq!((answer.verdict, answer.identifier), (0, identifier));
-    assert_eq!(compared.tape()[TERMS], *due.as_bytes());
-    assert_eq!(compared.tape()[169], b'\n');
+    assert_eq!(compared.tape()[TERMS_IN_LINE], *due.as_bytes());
+    assert_eq!(compared.tape()[NEWLINE_IN_LINE], *b"\n");
     let row = &compared.ledger()[row_range(0)];
-    assert_eq!(row[TERMS_OF_ROW], *due.as_bytes());
-    assert_eq!(u64_at(row, IDENTIFIER_OF_ROW), identifier);
-    assert_eq!(row[TAIL_OF_ROW], [0; 5]);
+    assert_eq!(row[TERMS_IN_ROW], *due.as_bytes());
+    assert_eq!(u64_at(row, IDENTIFIER_IN_ROW), identifier);
+    assert_eq!(row[TAIL_IN_ROW], [0; TAIL_SIZE]);
 }
 
 #[test]

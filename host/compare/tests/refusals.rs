@@ -65,6 +65,7 @@ fn empty_buffers_are_refused() {
     assert_eq!(compared.submit(&[]), refused(3, 0));
     assert_eq!(compared.submit(&message), refused(3, 0));
     assert_eq!(compared.status(&[]), refused(3, 0));
+    assert_eq!(compared.totals().verdict, 3);
     compared.set_ledger(&vec![0; ledger_size(1)]);
     assert_eq!(compared.open(&CAPS), Answer::default());
     assert_eq!(compared.submit(&[]), refused(4, 0));

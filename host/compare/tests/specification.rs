@@ -103,9 +103,34 @@ fn the_header() {
         CAPS_IN_HEADER,
         ROW_SIZE_IN_HEADER,
         CAPACITY_IN_HEADER,
+        TOTALS_IN_HEADER,
     ];
     assert_eq!(fields("**8.1**"), header);
     assert_eq!(size("**8.1**"), HEADER_SIZE);
+}
+
+/// The totals stand in the order that 8.1 tells.
+#[test]
+fn the_totals() {
+    let header = table("**8.1**");
+    let content = &header[header.len() - 1][2];
+    let (_, names) = content.split_once("how many swaps are ").expect("names");
+    let (names, _) = names.split_once(", in this order").expect("an order");
+    let names = names.replace(" and ", ", ");
+    let names: Vec<&str> = names.split(", ").collect();
+    for (name, step) in [
+        ("live", None),
+        ("closed", Some(plain_short("TERM", Some("ETRM")))),
+        ("errored", Some(plain_short("EROR", None))),
+        ("ported", Some(plain_short("PRTO", Some("PTNG")))),
+    ] {
+        let mut compared = opened();
+        for message in [plain_new()].iter().chain(&step) {
+            assert_eq!(compared.submit(&message.encode()).verdict, 0);
+        }
+        let due: Vec<u32> = names.iter().map(|&one| u32::from(one == name)).collect();
+        assert_eq!(compared.totals().totals.to_vec(), due, "{name}");
+    }
 }
 
 #[test]
@@ -157,10 +182,13 @@ fn the_order_of_rules() {
         row[1].split(", ").map(|rule| number(rule) as u8).collect()
     };
     let orders: Vec<Vec<u8>> = table("**9.1**").iter().map(listed).collect();
-    assert_eq!(
-        orders,
-        [&order::OPENING[..], &order::SUBMITTING, &order::ASKING]
-    );
+    let operations = [
+        &order::OPENING[..],
+        &order::SUBMITTING,
+        &order::ASKING,
+        &order::TOTALS,
+    ];
+    assert_eq!(orders, operations);
 }
 
 #[test]

@@ -1,7 +1,7 @@
 //! Empty buffers, as empty slices through the wrapper and as NULL with length
 //! 0 through the C interface itself.
 
-use super::{sdr_open, sdr_status, sdr_submit, Answer, LINE_SIZE};
+use super::{sdr_open, sdr_status, sdr_submit, sdr_totals, Answer, Totals, LINE_SIZE};
 use std::ptr::{null, null_mut};
 
 /// Caps of 250,000,000 for all five classes.
@@ -42,6 +42,7 @@ fn empty_slices_are_short_buffers() {
     );
     assert_eq!(super::status(&[], &[]), only(super::LEDGER_WRONG));
     assert_eq!(super::status(&ledger, &[]), element_1());
+    assert_eq!(super::totals(&[]), no_totals());
     assert_eq!(ledger, before);
     assert_eq!(tape, [7; LINE_SIZE]);
 }
@@ -54,11 +55,19 @@ fn element_1() -> Answer {
     }
 }
 
+fn no_totals() -> Totals {
+    Totals {
+        verdict: super::LEDGER_WRONG,
+        totals: [0; 4],
+    }
+}
+
 #[test]
 fn null_with_length_0_is_an_empty_buffer() {
     let mut ledger = opened();
     let before = ledger.clone();
     let mut tape = [7; LINE_SIZE];
+    let mut totals = [7; 4];
     let (start, size) = (ledger.as_mut_ptr(), ledger.len());
     // SAFETY: each pointer is NULL with length 0 or that of a whole vector or
     // array that nothing else uses meanwhile.
@@ -70,9 +79,11 @@ fn null_with_length_0_is_an_empty_buffer() {
             sdr_submit(start, size, tape.as_mut_ptr(), LINE_SIZE, null(), 0),
             sdr_status(null(), 0, null(), 0),
             sdr_status(start, size, null(), 0),
+            u64::from(sdr_totals(null(), 0, totals.as_mut_ptr())),
         ]
     };
-    assert_eq!(answers, [1, 3, 4, 5, 3, 9 | 1 << 8]);
+    assert_eq!(answers, [1, 3, 4, 5, 3, 9 | 1 << 8, 3]);
     assert_eq!(ledger, before);
     assert_eq!(tape, [7; LINE_SIZE]);
+    assert_eq!(totals, [0; 4]);
 }

@@ -1,9 +1,10 @@
 //! A safe wrapper around the C interface of the swap data validation core.
 //!
-//! The core has three operations: [`open`] a ledger over a lent buffer,
-//! [`submit`] one message, ask the [`status`] of one swap. All three work on
-//! byte slices that stay the caller's. Empty slices are allowed and get the
-//! verdict of a buffer that is too short.
+//! The core has four operations: [`open`] a ledger over a lent buffer,
+//! [`submit`] one message, ask the [`status`] of one swap, ask for the
+//! [`totals`] of the statuses. All four work on byte slices that stay the
+//! caller's. Empty slices are allowed and get the verdict of a buffer that is
+//! too short.
 //!
 //! Signing, transport, dissemination delay and clock are the host's.
 //!
@@ -14,11 +15,12 @@
 //! let mut tape = [0; sdr::LINE_SIZE];
 //! let answer = sdr::submit(&mut ledger, &mut tape, &[0, 0]);
 //! assert_eq!((answer.verdict, answer.element), (sdr::ACTION_WRONG, 2));
+//! assert_eq!(sdr::totals(&ledger).of(sdr::LIVE), 0);
 //! ```
 #![deny(missing_docs)]
 
 /// The ledger's header.
-pub const HEADER_SIZE: usize = 64;
+pub const HEADER_SIZE: usize = 80;
 /// One swap in the ledger.
 pub const ROW_SIZE: usize = 184;
 /// The shortest ledger: a header and one row.
@@ -37,7 +39,8 @@ pub const LEDGER_SHORT: u8 = 1;
 /// Opening: a cap is outside its range or is not its own rounded amount.
 pub const CAP_WRONG: u8 = 2;
 /// The ledger is shorter than [`SHORTEST_LEDGER`], or its header breaks the
-/// layout, has more rows than capacity or has a cap that [`CAP_WRONG`] refuses.
+/// layout, has more rows than capacity, has a cap that [`CAP_WRONG`] refuses or
+/// totals that do not add up to the rows in use.
 pub const LEDGER_WRONG: u8 = 3;
 /// The tape buffer is shorter than [`LINE_SIZE`].
 pub const TAPE_SHORT: u8 = 4;
@@ -63,7 +66,8 @@ pub const PRICE_TOO_LONG: u8 = 12;
 /// In a full message expiration is before effective, settlement before
 /// expiration, or reporting before execution.
 pub const DATES_DISORDERED: u8 = 13;
-/// The swap's row has a status or an identifier that no row can have.
+/// The swap's row has a status or an identifier that no row can have, or a
+/// status whose total is 0.
 pub const ROW_WRONG: u8 = 14;
 /// The swap's status does not admit the action.
 pub const NOT_ADMITTED: u8 = 15;
@@ -120,6 +124,26 @@ impl Answer {
     }
 }
 
+/// What the totals question answers.
+#[derive(Clone, Copy, Debug, PartialEq, Eq, Default)]
+pub struct Totals {
+    /// [`ACCEPTED`] or [`LEDGER_WRONG`].
+    pub verdict: u8,
+    /// How many swaps are live, closed, errored and ported, in this order;
+    /// zeros beside a refusal.
+    pub totals: [u32; 4],
+}
+
+impl Totals {
+    /// The total of a status; 0 for [`UNKNOWN`] and for numbers that are no
+    /// status, which no row has.
+    pub fn of(&self, status: u8) -> u32 {
+        let place = usize::from(status).checked_sub(usize::from(LIVE));
+        let total = place.and_then(|place| self.totals.get(place));
+        total.copied().unwrap_or(0)
+    }
+}
+
 extern "C" {
     fn sdr_open(
         ledger: *mut u8,
@@ -139,6 +163,7 @@ extern "C" {
         message_len: usize,
     ) -> u64;
     fn sdr_status(ledger: *const u8, ledger_len: usize, uti: *const u8, uti_len: usize) -> u64;
+    fn sdr_totals(ledger: *const u8, ledger_len: usize, totals: *mut u32) -> u32;
 }
 
 /// Opens a ledger over the buffer, with the caps in the order CR, IR, FX, EQ,
@@ -182,12 +207,31 @@ pub fn status(ledger: &[u8], uti: &[u8]) -> Answer {
     Answer::unpack(number)
 }
 
+/// Asks how many swaps are live, closed, errored and ported. Reads the header
+/// alone.
+pub fn totals(ledger: &[u8]) -> Totals {
+    let mut totals = [0; 4];
+    let verdict = totals_into(ledger, &mut totals).verdict;
+    Totals { verdict, totals }
+}
+
+/// Asks the same and writes the totals into an array of the caller's: all four,
+/// beside a refusal too. Only the verdict of the answer is used: [`ACCEPTED`]
+/// or [`LEDGER_WRONG`].
+pub fn totals_into(ledger: &[u8], totals: &mut [u32; 4]) -> Answer {
+    // SAFETY: pointer and length are those of one slice, which the core only
+    // reads; the array, which it writes, has the four numbers that it asks for
+    // and is borrowed mutably until the call returns. The core keeps no pointer.
+    let number = unsafe { sdr_totals(ledger.as_ptr(), ledger.len(), totals.as_mut_ptr()) };
+    Answer::unpack(u64::from(number))
+}
+
 #[cfg(test)]
 mod empty;
 
 #[cfg(test)]
 mod tests {
-    use super::Answer;
+    use super::{Answer, Totals};
 
     #[test]
     fn each_field_is_recovered() {
@@ -201,5 +245,24 @@ mod tests {
         assert_eq!(Answer::unpack(number), answer);
         assert_eq!(Answer::unpack(u64::MAX).identifier, (1 << 40) - 1);
         assert_eq!(Answer::unpack(0), Answer::default());
+    }
+
+    #[test]
+    fn each_status_has_its_total() {
+        let answer = Totals {
+            verdict: super::ACCEPTED,
+            totals: [40, 30, 20, 10],
+        };
+        for (status, total) in [
+            (super::UNKNOWN, 0),
+            (super::LIVE, 40),
+            (super::CLOSED, 30),
+            (super::ERRORED, 20),
+            (super::PORTED, 10),
+            (super::PORTED + 1, 0),
+            (255, 0),
+        ] {
+            assert_eq!(answer.of(status), total, "{status}");
+        }
     }
 }

@@ -1,7 +1,7 @@
 //! Messages and ledgers for the tests.
 #![allow(dead_code)]
 
-use checker::sizes::{self, line, row, COUNT, ENTRY, U32, U64};
+use checker::sizes::{self, header, line, row, COUNT, ENTRY, TOTALS, U32, U64};
 use checker::{open, submit, Answer};
 use std::collections::BTreeMap;
 use std::ops::Range;
@@ -193,6 +193,24 @@ impl Book {
 
     pub fn row_mut(&mut self, place: usize) -> &mut [u8] {
         &mut self.ledger[sizes::ledger_size(place)..][..row::SIZE]
+    }
+
+    /// The totals in the header, from live to ported.
+    pub fn totals(&self) -> [u32; TOTALS] {
+        [0, 1, 2, 3].map(|place| self.u32_at(header::TOTALS + U32 * place))
+    }
+
+    pub fn set_totals(&mut self, totals: [u32; TOTALS]) {
+        for (place, total) in totals.into_iter().enumerate() {
+            self.set_u32(header::TOTALS + U32 * place, total);
+        }
+    }
+
+    /// Gives the only row in use a status from 1 to 4, with the totals of it.
+    pub fn set_only_status(&mut self, status: u8) {
+        assert_eq!(self.u32_at(header::ROWS), 1);
+        self.row_mut(0)[row::STATUS] = status;
+        self.set_totals([1, 2, 3, 4].map(|s| u32::from(s == status)));
     }
 
     pub fn u32_at(&self, at: usize) -> u32 {

@@ -1,9 +1,9 @@
 //! How each rule is broken.
 
 use super::{Case, Damage, Fault, Layout, Order, TooLong, WrongRow};
-use crate::layout::{self, COUNT_SIZE, ENTRY_SIZE, EXECUTION_IN_TERMS, HEADER_SIZE};
+use crate::layout::{self, Header, COUNT_SIZE, ENTRY_SIZE, EXECUTION_IN_TERMS, HEADER_SIZE};
+use crate::layout::{total_place, SHORTEST_LEDGER, TOTALS, U16_SIZE};
 use crate::layout::{IDENTIFIER_LIMIT, LINE_SIZE, LONGEST_MESSAGE, OFFSET_IN_ENTRY, ROW_SIZE};
-use crate::layout::{SHORTEST_LEDGER, U16_SIZE};
 use crate::lists::*;
 use crate::malformed;
 use crate::matrix;
@@ -28,7 +28,7 @@ impl Case {
             Fault::PriceAndSpread => sound::make_quoted_twice(random, &mut self.message),
             Fault::PriceTooLong(long) => self.lengthen(random, long),
             Fault::DatesDisordered(order) => self.disorder(order),
-            Fault::RowWrong(wrong) => self.spoil_row(wrong),
+            Fault::RowWrong(wrong) => self.spoil_row(random, wrong),
             Fault::NotAdmitted(status) => self.set_status(random, status),
             Fault::OtherTime => self.other_time(random),
             Fault::LedgerFull => self.fill_up(),
@@ -41,7 +41,15 @@ impl Case {
         let header = &mut self.header;
         match damage {
             Damage::Short => self.ledger_length = random.below(SHORTEST_LEDGER),
-            Damage::ManyRows => header.rows = header.capacity + 1 + random.below(3) as u32,
+            Damage::ManyRows => {
+                header.rows = header.capacity + 1 + random.below(3) as u32;
+                header.totals = values::totals(random, header.rows);
+            }
+            Damage::OtherRows => {
+                let sum = sum(&header.totals);
+                let others = (0..=header.capacity.max(1)).filter(|&rows| u64::from(rows) != sum);
+                header.rows = *random.pick(&others.collect::<Vec<u32>>());
+            }
             Damage::FirstRow => header.first_row = wrong_size(random, HEADER_SIZE),
             Damage::NextZero => header.next = 0,
             Damage::NextHigh => {
@@ -51,6 +59,8 @@ impl Case {
             Damage::RowSize => header.row_size = wrong_size(random, ROW_SIZE),
             Damage::CapacityLow => header.capacity = right.max(1) - 1,
             Damage::CapacityHigh => header.capacity = right + 1,
+            Damage::Total(place) => header.totals[place] = wrong_total(random, header, place),
+            Damage::TotalsWrap => header.totals = wrapping_totals(random, header.rows),
         }
     }
 
@@ -144,7 +154,7 @@ impl Case {
         }
     }
 
-    fn spoil_row(&mut self, wrong: WrongRow) {
+    fn spoil_row(&mut self, random: &mut Random, wrong: WrongRow) {
         let next = self.header.next;
         let row = &mut self.rows[self.row];
         match wrong {
@@ -152,6 +162,14 @@ impl Case {
             WrongRow::IdentifierZero => row.identifier = 0,
             WrongRow::IdentifierNext => row.identifier = next,
             WrongRow::IdentifierHigh => row.identifier = u64::MAX,
+            // A status that is none, from another fault, has no total.
+            WrongRow::TotalZero if !ROW_STATUSES.contains(&row.status) => {}
+            WrongRow::TotalZero => {
+                let totals = &mut self.header.totals;
+                let own = total_place(row.status);
+                let other = (own + random.between(1, TOTALS - 1)) % TOTALS;
+                totals[other] += std::mem::take(&mut totals[own]);
+            }
         }
         self.name_row();
     }
@@ -168,7 +186,10 @@ impl Case {
             self.message.set(UTI, unknown);
             return;
         }
-        self.rows[self.row].status = status;
+        let row = &mut self.rows[self.row];
+        self.header.totals[total_place(row.status)] -= 1;
+        self.header.totals[total_place(status)] += 1;
+        row.status = status;
         self.name_row();
     }
 
@@ -216,6 +237,34 @@ fn wrong_size(random: &mut Random, size: usize) -> u32 {
     let size = size as u32;
     let shortest = SHORTEST_LEDGER as u32;
     *random.pick(&[0, size - 1, size + 1, shortest, size << 8, size | 1 << 31])
+}
+
+/// The exact sum of totals.
+fn sum(totals: &[u32]) -> u64 {
+    totals.iter().map(|&total| u64::from(total)).sum()
+}
+
+/// A total with which those of the header do not add up to the rows in use.
+fn wrong_total(random: &mut Random, header: &Header, place: usize) -> u32 {
+    let others = sum(&header.totals) - u64::from(header.totals[place]);
+    let right = u64::from(header.rows).saturating_sub(others) as u32;
+    let near = [
+        right.wrapping_sub(1),
+        right + 1,
+        right + 256,
+        right | 1 << 31,
+    ];
+    *random.pick(&[&near[..], &[u32::MAX]].concat())
+}
+
+/// Totals that add up to so many rows and once, twice or three times 2^32.
+fn wrapping_totals(random: &mut Random, rows: u32) -> [u32; TOTALS] {
+    let times = random.between(1, TOTALS - 1);
+    let mut totals = [0; TOTALS];
+    totals[..times].fill(u32::MAX);
+    totals[times] = rows + times as u32;
+    totals.rotate_right(random.below(TOTALS));
+    totals
 }
 
 /// A value that keeps the form of a code that only full messages take.

@@ -2,7 +2,8 @@
 
 use super::breaking::spoiled;
 use super::{Fault, Layout};
-use crate::layout::{self, Header, Row, EXECUTION_IN_TERMS, IDENTIFIER_LIMIT, ROW_SIZE, TAIL_SIZE};
+use crate::layout::{self, Header, Row, EXECUTION_IN_TERMS, IDENTIFIER_LIMIT, ROW_SIZE};
+use crate::layout::{total_place, TAIL_SIZE};
 use crate::lists::{ROW_STATUSES, UTI};
 use crate::matrix;
 use crate::message::Message;
@@ -34,7 +35,6 @@ impl Case {
         let spare = random.between(1, 3);
         let ledger_length = layout::ledger_size(count + spare) + random.below(ROW_SIZE);
         let mut header = Header::opened(ledger_length, values::caps(random));
-        header.rows = count as u32;
         header.next = next_identifier(random);
         let utis = values::utis(random, count + 1);
         let rows: Vec<Row> = utis[..count]
@@ -53,6 +53,7 @@ impl Case {
             fill: random.bytes(ledger_length),
         };
         case.set_message(random, action, &utis[count]);
+        case.set_totals(random);
         case
     }
 
@@ -74,6 +75,17 @@ impl Case {
         if action == "CORR" && random.once_in(2) {
             let mended = values::time(random);
             sound::set_execution(random, &mut self.message, &mended);
+        }
+    }
+
+    /// Takes the rows into use. The totals are a count of them or, now and then,
+    /// any that add up to as many, with one at least for the case's swap.
+    fn set_totals(&mut self, random: &mut Random) {
+        self.header.count(&self.rows);
+        if random.once_in(4) {
+            self.header.totals = values::totals(random, self.header.rows - 1);
+            let own = total_place(self.rows[self.row].status);
+            self.header.totals[own] += 1;
         }
     }
 

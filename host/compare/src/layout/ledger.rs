@@ -11,6 +11,7 @@ pub struct Header {
     pub caps: Caps,
     pub row_size: u32,
     pub capacity: u32,
+    pub totals: [u32; TOTALS],
 }
 
 impl Header {
@@ -23,7 +24,15 @@ impl Header {
             caps,
             row_size: ROW_SIZE as u32,
             capacity: capacity(length) as u32,
+            totals: [0; TOTALS],
         }
+    }
+
+    /// Takes these rows into use: their number, and how many have each status.
+    pub fn count(&mut self, rows: &[Row]) {
+        let with = |status| rows.iter().filter(|row| row.status == status).count();
+        self.rows = rows.len() as u32;
+        self.totals = ROW_STATUSES.map(|status| with(status) as u32);
     }
 
     /// The header's bytes.
@@ -36,6 +45,8 @@ impl Header {
         bytes[CAPS_IN_HEADER].copy_from_slice(caps.as_flattened());
         bytes[ROW_SIZE_IN_HEADER].copy_from_slice(&self.row_size.to_le_bytes());
         bytes[CAPACITY_IN_HEADER].copy_from_slice(&self.capacity.to_le_bytes());
+        let totals = self.totals.map(u32::to_le_bytes);
+        bytes[TOTALS_IN_HEADER].copy_from_slice(totals.as_flattened());
         bytes
     }
 }
@@ -104,6 +115,18 @@ pub fn u32_at(bytes: &[u8], field: Range<usize>) -> u32 {
     u32::from_le_bytes(bytes[field].try_into().expect("four bytes"))
 }
 
+/// The totals that a ledger's header holds.
+pub fn totals_in(ledger: &[u8]) -> [u32; TOTALS] {
+    let mut totals = ledger[TOTALS_IN_HEADER].chunks_exact(U32_SIZE);
+    ROW_STATUSES.map(|_| u32_at(totals.next().expect("a total"), 0..U32_SIZE))
+}
+
+/// The place of a row's status among the totals.
+pub fn total_place(status: u8) -> usize {
+    let place = ROW_STATUSES.iter().position(|&one| one == status);
+    place.expect("a status of a row")
+}
+
 /// Says in words where a byte of the ledger lies.
 pub fn place(at: usize) -> String {
     if at < HEADER_SIZE {
@@ -127,6 +150,7 @@ pub fn described(ledger: &[u8]) -> String {
         caps: CLASSES.map(|_| u64_at(caps.next().expect("a cap"), 0..U64_SIZE)),
         row_size: u32_at(ledger, ROW_SIZE_IN_HEADER),
         capacity: u32_at(ledger, CAPACITY_IN_HEADER),
+        totals: totals_in(ledger),
     };
     format!("{length} bytes, {header:?}")
 }

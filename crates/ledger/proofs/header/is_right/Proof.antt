@@ -4,10 +4,11 @@ use mathlib.Core.Bool.{true}
 use lib.Dec.{eqb, leb}
 use lib.ListN.{length}
 use denote.Ref.{now}
-use borrow.Author.Tests.{le-leb, lt-leb, eq-eqb, ne-eqb}
+use borrow.Author.Tests.{le-leb, lt-leb, eq-eqb, ne-eqb, not-true, not-false}
 use Rattle.octets.specs.Bytes.{Bytes}
 use Rattle.ledger.specs.Layout.{headerSize, rowSize, shortestLedger, identifierLimit}
 use Rattle.ledger.specs.Header.{rowsInUse, firstRow, nextIdentifier, sizeOfRows, capacityIn, capsIn, areCaps, capacityFor, headerOf, headerRight}
+use Rattle.ledger.specs.Totals.{totalsIn}
 use Rattle.ledger.specs.declared.header.Header.{Header}
 use borrow.Author.Needs.{needs}
 use Rattle.ledger.proofs.header.is_right.Statement.{statement}
@@ -33,6 +34,10 @@ caps-are : (c : tie.Start) → capsIn (l c) ≡ c .args .h .caps
 unfolding headerOf
 caps-are c = ap (λ (h : Header). h .caps) (sym (c .pre))
 
+totals-are : (c : tie.Start) → totalsIn (l c) ≡ c .args .h .totals
+unfolding headerOf
+totals-are c = ap (λ (h : Header). h .totals) (sym (c .pre))
+
 -- the function's start, from each place
 abbrev start1 : tie.Else1 → tie.Start
 start1 c = c .before .before
@@ -54,6 +59,9 @@ start6 c = start5 (c .before .before .before)
 
 abbrev start7 : tie.Else7 → tie.Start
 start7 c = start6 (c .before .before)
+
+abbrev start8 : tie.Else8 → tie.Start
+start8 c = start7 (c .before .before .before)
 
 -- what each test ensured
 ensured1 : (c : tie.Else1) → leb shortestLedger (length (l (start1 c))) ≡ true
@@ -78,6 +86,9 @@ ensured6 c = eq-eqb _ _ (capacity-is (start6 c) ∙ c .if6 .left ∙ c .before .
 
 ensured7 : (c : tie.Else7) → leb (rowsInUse (l (start7 c))) (capacityIn (l (start7 c))) ≡ true
 ensured7 c = rw (rows-is (start7 c), capacity-is (start7 c)) (le-leb _ _ (c .if7 .left))
+
+ensured8 : (c : tie.Else8) → areCaps (capsIn (l (start8 c))) ≡ true
+ensured8 c = rw (caps-are (start8 c)) (sym (c .before .are-caps .ensures) ∙ not-false _ (c .if8 .left))
 
 returns : tie.Need-returns
 unfolding headerRight
@@ -141,14 +152,28 @@ returns-7 c =
 returns-8 : tie.Need-returns-8
 unfolding headerRight
 returns-8 c =
-    let c7 = c .before .before in
+    let c7 = c .before .before .before in
     let c6 = c7 .before .before in
     let c5 = c6 .before .before .before in
     let c4 = c5 .before .before in
     let c3 = c4 .before .before in
     let c2 = c3 .before .before in
     let c1 = c2 .before .before in
-    rw (ensured1 c1, ensured2 c2, ensured3 c3, ensured4 c4, ensured5 c5, ensured6 c6, ensured7 c7) (c .are-caps .ensures ∙ sym (ap areCaps (caps-are (start7 c7))))
+    rw (ensured1 c1, ensured2 c2, ensured3 c3, ensured4 c4, ensured5 c5, ensured6 c6, ensured7 c7, caps-are (start7 c7), sym (c .before .are-caps .ensures) ∙ not-true _ (c .if8 .taken))
+
+returns-9 : tie.Need-returns-9
+unfolding headerRight
+returns-9 c =
+    let c8 = c .before .before .before in
+    let c7 = c8 .before .before .before in
+    let c6 = c7 .before .before in
+    let c5 = c6 .before .before .before in
+    let c4 = c5 .before .before in
+    let c3 = c4 .before .before in
+    let c2 = c3 .before .before in
+    let c1 = c2 .before .before in
+    let start = start8 c8 in
+    rw (ensured1 c1, ensured2 c2, ensured3 c3, ensured4 c4, ensured5 c5, ensured6 c6, ensured7 c7, ensured8 c8, totals-are start, rows-is start, ← c .before .sum-of .ensures)
 
 pub is-right-spec : {M : Type 1} → statement M
 is-right-spec =
@@ -165,4 +190,6 @@ is-right-spec =
     returns-6
     returns-7
     (λ c κs. search needs)
-    returns-8)
+    returns-8
+    (λ c κs. search needs)
+    returns-9)

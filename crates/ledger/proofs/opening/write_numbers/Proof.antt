@@ -1,6 +1,6 @@
 -- `ledger::opening::write_numbers` meets its contract. Assumes nothing.
 use Rattle.octets.proofs.NumberLaws.{length-toLe}
-use Rattle.octets.proofs.FieldRun.{then-exact, last-exact, then-group}
+use Rattle.octets.proofs.FieldRun.{then-exact, then-group}
 use Rattle.ledger.specs.Layout.{u32, u64}
 use Rattle.ledger.proofs.NewHeader.{header-written}
 use borrow.Author.Needs.{needs}
@@ -9,7 +9,8 @@ use Rattle.ledger.proofs.opening.write_numbers.Tie as tie
 
 returns : tie.Need-returns
 returns c =
-    let sixth = c .before .before in
+    let seventh = c .before .before in
+    let sixth = seventh .before .before .before .before in
     let fifth = sixth .before .before .before .before in
     let fourth = fifth .before .before .before .before in
     let third = fourth .before .before .before .before in
@@ -22,12 +23,14 @@ returns c =
     (then-exact _ _ (length-toLe u64 _) _ _ (third .write-at3 .ensures)
     (then-group _ _ _ _ (fourth .write-caps .ensures)
     (then-exact _ _ (length-toLe u32 _) _ _ (fifth .write-at4 .ensures)
-    (last-exact _ _ (length-toLe u32 _) _ (sixth .write-at5 .ensures)))))))
+    (then-exact _ _ (length-toLe u32 _) _ _ (sixth .write-at5 .ensures)
+    (seventh .write-totals .ensures)))))))
 
 pub write-numbers-spec : {M : Type 1} → statement M
 write-numbers-spec =
     tie.close
     (tie.spec
+    (λ c κs. search needs)
     (λ c κs. search needs)
     (λ c κs. search needs)
     (λ c κs. search needs)

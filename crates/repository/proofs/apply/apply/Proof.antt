@@ -3,6 +3,7 @@ use mathlib.Core.Path.{ap, ap₂, _∙_}
 use denote.Ref.{now}
 use Rattle.ledger.specs.Rows.{rowsAfter, headerAfter}
 use Rattle.ledger.specs.Line.{line}
+use Rattle.ledger.proofs.ReadBack.{rows-after-total}
 use Rattle.submission.specs.Lent.{lentOf}
 use Rattle.submission.specs.Submission.{swapOf, lineDueIn, termsFor, tapeAfter}
 use Rattle.repository.proofs.AdmissionLaws.{uti-fits, line-is, ledger-is}
@@ -21,8 +22,11 @@ store-row-requires c κs =
 update-header-requires : tie.Need-update-header-requires
 update-header-requires c κs =
     let r = c .before .before .before in
-    let f = start (r .before .before .before .before .before) .pre in
-    (search needs, f .0 .rows, f .0 .next)
+    let s = start (r .before .before .before .before .before) in
+    let f = s .pre in
+    let x = s .args in
+    let kept = rows-after-total (x .s .action) (x .due) (x .s .status) (now (r .before .element .result)) (x .s .next) (now (x .terms)) (x .s .place) (now (x .l)) (f .3) (f .0 .row) (x .s .before) (f .0 .before) in
+    (search needs, f .0 .rows, f .0 .next, f .0 .before, f .0 .least, f .0 .most, λ h. rw (r .store-row .ensures, kept) (f .0 .counted h))
 
 returns : tie.Need-returns
 returns c =
@@ -44,7 +48,7 @@ returns c =
     ∙ ap₂ (λ d t. tapeAfter d (line a (s .next) (s .previous) m t) (now (x .tape))) (f .1) (f .2)
     ∙ ap (λ z. tapeAfter due z (now (x .tape))) (line-is (f .0)) in
     let ledger = h .update-header .ensures
-    ∙ ap₂ (λ d z. headerAfter a d (s .rows) (s .next) z) (f .1) row
+    ∙ ap₂ (λ d z. headerAfter a d (s .before) (s .status) (s .rows) (s .next) z) (f .1) row
     ∙ ledger-is (f .0) in
     ap₂ lentOf ledger line
 

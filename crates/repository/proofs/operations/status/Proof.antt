@@ -8,7 +8,7 @@ use Rattle.elements.specs.Forms.{hasForm}
 use Rattle.rules.specs.Findings.{firstBroken}
 use Rattle.ledger.specs.declared.header.Header.{Header}
 use Rattle.ledger.specs.declared.header.HeaderCheck.the-variants as check
-use Rattle.ledger.specs.Header.{nextIdentifier, headerRight, headerOf}
+use Rattle.ledger.specs.Header.{headerRight, headerOf}
 use Rattle.ledger.specs.Rows.{swapIn}
 use Rattle.ledger.proofs.RightHeader.{header-checked, used-fit}
 use Rattle.submission.specs.Status.{statusRules, asked}
@@ -48,7 +48,7 @@ read : (c : tie.Else1) → HeaderRead (header (k1 c)) (now (s1 (k1 c) .args .l))
 read c = (right (k1 c) .1, used-fit _ _ (header (k1 c)) (right (k1 c) .0) (right (k1 c) .1))
 
 -- rule 14 on what was looked up
-wrong : (c : tie.After-has-wrong-row) → hasWrongRow (nextIdentifier (now (s1 (k1 (c .before .before)) .args .l))) (swapIn (now (s1 (k1 (c .before .before)) .args .l)) (now (s1 (k1 (c .before .before)) .args .uti))) ≡ c .has-wrong-row .result
+wrong : (c : tie.After-has-wrong-row) → hasWrongRow (headerOf (now (s1 (k1 (c .before .before)) .args .l))) (swapIn (now (s1 (k1 (c .before .before)) .args .l)) (now (s1 (k1 (c .before .before)) .args .uti))) ≡ c .has-wrong-row .result
 wrong c = wrong-read _ _ _ _ _ (right (k1 (c .before .before)) .1) (c .before .find-swap .ensures) (c .has-wrong-row .ensures)
 
 returns-3 : tie.Need-returns-3
