@@ -1,5 +1,5 @@
 -- Laws of a list of codes, each so many capitals: a value is one of them exactly where its number is one of theirs. Assumes nothing.
-use Prim.Native.Nat.{ℕ, suc, _+_, _*_, _<_, _≤_}
+use Prim.Native.Nat.{ℕ, suc, _+_, _*_, _<_}
 use Prim.Native.Char.{code}
 use Prim.Native.String.{String}
 use mathlib.Core.Path.{_≡_, refl, sym, ap, ap₂, subst, _∙_}
@@ -7,21 +7,19 @@ use mathlib.Core.Bool.{Bool, true, false, false≢true}
 use mathlib.Core.List.{List, [], _∷_}
 use mathlib.Core.Logic.{_⊎_, ⊎-elim, inl, inr}
 use native.Mathlib.Omega.{arith}
-use native.Mathlib.Nat.{zero-add}
 use lib.ListN.{length, getD, List·getD-eq-default}
 use lib.Dec.{leb, ltb}
 use borrow.Author.Tests.{leb-true, ltb-true, ltb-false, lt-ltb}
 use types.Run.{OneOf}
 use Rattle.octets.specs.Bytes.{Bytes}
 use Rattle.octets.specs.Choice.{choose, both, either}
-use Rattle.octets.specs.Search.{all}
 use Rattle.octets.specs.Text.{text}
 use Rattle.octets.specs.Same.{sameBytes, place, oneOf}
 use Rattle.octets.proofs.ChoiceLaws.{both-first, both-second, not-true-false, same-test}
-use Rattle.octets.proofs.SearchLaws.{all-at}
 use Rattle.octets.proofs.SameLaws.{same-true, same-refl}
 use Rattle.octets.proofs.NumberLaws.{EachByte}
 use Rattle.values.specs.Run.{inClass, runOf}
+use Rattle.values.proofs.RunLaws.{run-least, run-most, run-at}
 use Rattle.values.specs.declared.run.Class.the-variants.{Capital}
 
 -- each code passes a test
@@ -95,20 +93,14 @@ one-passes f (c ∷ cs) v a o =
 
 module _ (w : ℕ) (v : Bytes) (e : runOf w w Capital v ≡ true) where
   capitals-length : length v ≡ w
-  unfolding runOf
-  capitals-length =
-      let few : w ≤ length v = leb-true w (length v) (both-first (leb w (length v)) _ e) in
-      let many : length v ≤ w = leb-true (length v) w (both-first (leb (length v) w) _ (both-second (leb w (length v)) _ e)) in
-      omega arith
+  capitals-length = omega (arith, run-least w w Capital v e, run-most w w Capital v e)
 
   capitals-bytes : EachByte v
-  unfolding runOf
   capitals-bytes k = by (ltb k (length v)) refl
     where
       by : (t : Bool) → ltb k (length v) ≡ t → getD v k 0 < 256
       by true l =
-          let a : all (λ j. inClass Capital (getD v j 0)) (length v) ≡ true = both-second (leb (length v) w) _ (both-second (leb w (length v)) _ e) in
-          let one : inClass Capital (getD v k 0) ≡ true = rw (zero-add k) at (all-at (λ j. inClass Capital (getD v j 0)) 0 (length v) k (ltb-true k (length v) l) a) in
+          let one : inClass Capital (getD v k 0) ≡ true = run-at w w Capital v e k (ltb-true k (length v) l) in
           omega (arith, leb-true (getD v k 0) (code "Z") (both-second (leb (code "A") (getD v k 0)) _ one))
       by false l = rw (List·getD-eq-default v 0 (ltb-false k (length v) l)) (omega arith)
 

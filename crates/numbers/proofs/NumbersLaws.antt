@@ -10,6 +10,7 @@ use Rattle.octets.specs.Bytes.{Bytes}
 use Rattle.octets.specs.Choice.{choose, both}
 use Rattle.octets.proofs.ChoiceLaws.{both-first, both-second}
 use Rattle.values.specs.Run.{runOf}
+use Rattle.values.proofs.RunLaws.{run-least, run-most}
 use Rattle.values.specs.declared.run.Class.the-variants.{Digit}
 use Rattle.numbers.specs.Numbers.{pointIn, hasPoint, wholeOf, decimalsOf, isNumber}
 
@@ -20,12 +21,10 @@ module _ (a b : ℕ) (v : Bytes) (e : isNumber a b v ≡ true) where
 
   -- a digit stands before the point
   pub whole-some : 1 ≤ length (wholeOf v)
-  unfolding runOf
-  whole-some = leb-true 1 (length (wholeOf v)) (both-first _ _ whole-run)
+  whole-some = run-least 1 a Digit (wholeOf v) whole-run
 
   whole-most : length (wholeOf v) ≤ a
-  unfolding runOf
-  whole-most = leb-true (length (wholeOf v)) a (both-first _ _ (both-second (leb 1 (length (wholeOf v))) _ whole-run))
+  whole-most = run-most 1 a Digit (wholeOf v) whole-run
 
   -- a digits in all
   pub digits-most : length (wholeOf v) + length (decimalsOf v) ≤ a

@@ -24,9 +24,13 @@ inClass Capital b = between "A" "Z" b
 inClass CapitalOrDigit b = either (between "A" "Z" b) (between "0" "9" b)
 inClass LetterOrDigit b = either (between "a" "z" b) (either (between "A" "Z" b) (between "0" "9" b))
 
+-- each byte is of the class
+abbrev pub eachOf : Class → Bytes → Bool
+eachOf class v = all (λ k. inClass class (getD v k 0)) (length v)
+
 -- at least `least` and at most `most` bytes, each of the class
 unfoldable pub runOf : ℕ → ℕ → Class → Bytes → Bool
-runOf least most class v = both (leb least (length v)) (both (leb (length v) most) (all (λ k. inClass class (getD v k 0)) (length v)))
+runOf least most class v = both (leb least (length v)) (both (leb (length v) most) (eachOf class v))
 
 -- code 1: 21 to 52 capitals or digits
 abbrev pub isUti : Bytes → Bool
