@@ -80,6 +80,7 @@ CITED = {
         "Rows-differ-under documentLimits",
     ],
     "message::layout::layout_right": ["Layout-laws", "Values-whole", "Value-filled", "Value-found"],
+    "values::lei::next_remainder": ["Prefix-remainder"],
     "iso::is_currency": ["Currency-capitals"],
     "iso::is_location": ["Location-capitals"],
     "dates::is_before": ["Date-order", "Time-order"],

@@ -3,6 +3,7 @@ use Prim.Native.Nat.{ℕ, _+_, _-_, _*_, _%_}
 use Prim.Native.Char.{code}
 use mathlib.Core.Bool.{Bool}
 use mathlib.Core.List.{[], _∷_}
+use mathlib.Core.Path.{_≡_}
 use lib.ListN.{take, drop}
 use lib.Dec.{eqb}
 use Rattle.octets.specs.Bytes.{Bytes}
@@ -32,3 +33,15 @@ unfoldable pub isLei : Bytes → Bool
 isLei v =
     both (runOf leiBody leiBody CapitalOrDigit (take leiBody v))
     (both (runOf leiCheck leiCheck Digit (drop leiBody v)) (eqb (spell 0 v % leiModulus) 1))
+
+-- the remainder after one character more, and the running remainder over a text
+abbrev pub nextRemainder : ℕ → ℕ → ℕ
+nextRemainder r b = grow r b % leiModulus
+
+unfoldable pub runningRemainder : ℕ → Bytes → ℕ
+runningRemainder r [] = r
+runningRemainder r (b ∷ v) = runningRemainder (nextRemainder r b) v
+
+-- after every prefix the running remainder is that of the whole number that the prefix spells
+abbrev pub Prefix-remainder : Type 0
+Prefix-remainder = (v : Bytes) (k : ℕ) → runningRemainder 0 (take k v) ≡ spell 0 (take k v) % leiModulus

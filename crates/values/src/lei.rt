@@ -1,68 +1,52 @@
 // Legal entity identifiers (ISO 17442).
 ghost use mathlib.Core.Path.{_≡_};
-ghost use Prim.Native.Nat.{_<_, _≤_, _%_};
-ghost use lib.ListN.{length};
+ghost use mathlib.Core.Bool.{true};
+ghost use Prim.Native.Nat.{_<_, _%_};
 ghost use Rattle.values.specs.Limits.{leiModulus};
-ghost use Rattle.values.specs.Lei.{weight, number, spell, isLei};
+ghost use Rattle.values.specs.declared.run.Class.the-variants.{CapitalOrDigit};
+ghost use Rattle.values.specs.Run.{inClass, eachOf};
+ghost use Rattle.values.specs.Lei.{grow, spell, nextRemainder, Prefix-remainder, isLei};
 use crate::limits::LEI_BODY;
 use crate::limits::LEI_CHECK;
 use crate::limits::LEI_MODULUS;
 use crate::run::Class;
-use crate::run::in_class;
 use crate::run::run_of;
-use octets::part_of;
 
-// So many characters can be read on in 64 bits.
-const AT_A_TIME: usize = 7;
+// A letter less this is its number: A is 10, Z is 35.
+const LETTERS: u8 = b'A' - 10;
 
-// A to Z are read as 10 to 35, two digits; any other character is one digit.
-fn weight_of(b: u8) -> u64
-    ensures { λ r. ⌜ (r ≡ weight b) × (r ≤ 100) ⌝ }
+// A remainder read on by one capital or digit: a letter is two digits.
+fn grow(r: u32, b: u8) -> u32
+    requires { ⌜ (r < leiModulus) × (inClass CapitalOrDigit b ≡ true) ⌝ }
+    ensures { λ n. ⌜ n ≡ grow r b ⌝ }
 {
-    if in_class(Class::Capital, b) {
-        return 100;
+    if b < b'A' {
+        let d = b - b'0';
+        return r * 10 + d as u32;
     }
-    10
+    let l = b - LETTERS;
+    r * 100 + l as u32
 }
 
-fn number_of(b: u8) -> u64
-    ensures { λ r. ⌜ (r ≡ number b) × (r < 256) ⌝ }
+// The remainder after one capital or digit more.
+fn next_remainder(r: u32, b: u8) -> u32
+    requires { ⌜ (r < leiModulus) × (inClass CapitalOrDigit b ≡ true) ⌝ }
+    ensures { λ n. ⌜ (n ≡ nextRemainder r b) × (n < leiModulus) ⌝ }
+    ensures { λ _. ⌜ Prefix-remainder ⌝ }
 {
-    if b < b'0' {
-        return 0;
-    }
-    if in_class(Class::Capital, b) {
-        let c = b - b'A';
-        return 10 + c as u64;
-    }
-    let d = b - b'0';
-    d as u64
+    grow(r, b) % LEI_MODULUS
 }
 
-// A remainder read on by a few characters, so few that the number has room.
-fn read_on(n: u64, v: &[u8]) -> u64
-    requires { ⌜ (n < 256) × (length (now v) ≤ 7) ⌝ }
-    ensures { λ r. ⌜ r ≡ spell n (now (v .entry)) ⌝ }
-{
-    let mut r = n;
-    let mut k: usize = 0;
-    while k < v.len() {
-        r = r * weight_of(v[k]) + number_of(v[k]);
-        k += 1;
-    }
-    r
-}
-
-// The remainder of the whole number that a value spells, a few characters at a time.
-fn remainder_of(v: &[u8]) -> u64
+// The remainder of the whole number that capitals and digits spell, kept below the modulus after each of them.
+fn remainder_of(v: &[u8]) -> u32
+    requires { ⌜ eachOf CapitalOrDigit (now v) ≡ true ⌝ }
     ensures { λ r. ⌜ r ≡ spell 0 (now (v .entry)) % leiModulus ⌝ }
 {
-    let mut r: u64 = 0;
+    let mut r: u32 = 0;
     let mut k: usize = 0;
     while k < v.len() {
-        let few = part_of(v, k, AT_A_TIME);
-        r = read_on(r, few) % LEI_MODULUS;
-        k += few.len();
+        r = next_remainder(r, v[k]);
+        k += 1;
     }
     r
 }

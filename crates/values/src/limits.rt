@@ -15,4 +15,4 @@ pub const LEI_BODY: usize = 18;
 
 pub const LEI_CHECK: usize = 2;
 
-pub const LEI_MODULUS: u64 = 97;
+pub const LEI_MODULUS: u32 = 97;
