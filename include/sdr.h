@@ -2,38 +2,34 @@
  * sdr.h: a swap data repository's validation core, for C and C++ hosts.
  *
  * The core judges messages about swaps. It keeps the swaps in a ledger and writes what the public may see of an accepted
- * message as one line of text, the tape line. The latest valuation of each swap is held in a second buffer beside the ledger,
- * the valuation table; the public sees nothing of it. There are five operations:
+ * message as one line of text, the tape line. There are four operations:
  *
- *   sdr_open        makes a ledger without swaps in a buffer of yours
- *   sdr_submit      judges one message; if it accepts, it changes ledger or valuation table and may write a tape line
- *   sdr_status      tells how one swap stands
- *   sdr_totals      tells how many swaps are live, closed, errored and ported
- *   sdr_valuation   tells the valuation that is held of one swap
+ *   sdr_open     makes a ledger without swaps in a buffer of yours
+ *   sdr_submit   judges one message; if it accepts, it changes the ledger and may write a tape line
+ *   sdr_status   tells how one swap stands
+ *   sdr_totals   tells how many swaps are live, closed, errored and ported
  *
- * All five work on bytes that you lend for the call. The core has no state of its own, allocates nothing, does no input or
+ * All four work on bytes that you lend for the call. The core has no state of its own, allocates nothing, does no input or
  * output and keeps no pointer. Any bytes get an answer, also broken messages and ledgers. A refusal changes no byte of the
- * ledger, of the valuation table or of the tape buffer. The same bytes always get the same answer and leave the same bytes.
+ * ledger or of the tape buffer. The same bytes always get the same answer and leave the same bytes.
  *
  * What you owe the core:
  *   - Each pointer is valid for the length given with it. NULL is allowed exactly where the length is 0; that is an empty
- *     buffer, which is judged like any other. No alignment is asked for. The arrays of sdr_totals and sdr_valuation have no
- *     length: they are four uint32_t and SDR_RECORD_SIZE bytes, and never NULL.
+ *     buffer, which is judged like any other. No alignment is asked for. The array of sdr_totals has no length: it is an
+ *     array of four uint32_t and never NULL.
  *   - The buffers of a call do not overlap.
- *   - The ledger of sdr_open, the ledger, the valuation table and the tape buffer of sdr_submit, and the arrays of sdr_totals
- *     and sdr_valuation can be written.
+ *   - The ledger of sdr_open, the ledger and the tape buffer of sdr_submit, and the array of sdr_totals can be written.
  *   - One call at a time per ledger. No other thread reads or writes the buffers of a call while it runs. Calls on different
- *     ledgers, with different valuation tables and tape buffers, may run side by side.
- *   - Between calls the bytes of ledger and valuation table stay as the core left them. The ledger is lent at the length it
- *     was opened with, and always with the same table. Both may be stored and brought back elsewhere. A length that means
- *     another capacity is refused (SDR_LEDGER_WRONG), and so is a table that does not fit it (SDR_VALUES_WRONG); other damage
- *     may go unnoticed.
+ *     ledgers, with different tape buffers, may run side by side.
+ *   - Between calls the ledger's bytes stay as the core left them, and the ledger is lent at the length it was opened with.
+ *     It may be stored and brought back elsewhere. A length that means another capacity is refused (SDR_LEDGER_WRONG);
+ *     other damage may go unnoticed.
  *
  * docs/SPECIFICATION.md says in full what is judged, stored and shown. This header has names for its verdicts, elements,
  * statuses, sizes and limits. Sections below are sections of that document.
  *
- * What is yours to do: signing, transport, the dissemination delay and the clock, storing ledger, table and tape, and copying
- * each line out of the tape buffer before the next submission, which writes to the same place.
+ * What is yours to do: signing, transport, the dissemination delay and the clock, storing ledger and tape, and copying each
+ * line out of the tape buffer before the next submission, which writes to the same place.
  *
  * The library is for x86-64 and needs nothing but the C library. This header needs C99 or C++11.
  */
@@ -61,11 +57,6 @@ extern "C" {
 /* The length of a ledger with room for so many swaps. */
 #define SDR_LEDGER_SIZE(rows) ((size_t)SDR_HEADER_SIZE + (size_t)SDR_ROW_SIZE * (size_t)(rows))
 
-/* What the valuation table has for one swap, and the length of the table beside a ledger with room for so many swaps, at most
-   SDR_LARGEST_CAPACITY. */
-#define SDR_RECORD_SIZE 56
-#define SDR_VALUES_SIZE(rows) ((size_t)SDR_RECORD_SIZE * (size_t)(rows))
-
 /* A tape line, its newline included: the least that a tape buffer must have. There is no terminating zero. */
 #define SDR_LINE_SIZE 170
 
@@ -90,21 +81,19 @@ extern "C" {
  * Codes rise, and so do offsets. The first value follows the header, at 2 + 4 n; each value ends where the next one starts,
  * the last one at the end of the message.
  *
- * "All" below means that every action needs the element; "full" that NEWT, MODI, CORR and REVI need it; "VALU" that VALU
- * needs it. NEWT, MODI, CORR and REVI take the elements 1 to 28, TERM, EROR and PRTO 1 to 5, VALU 1, 2, 4, 5 and 30 to 33.
- * None takes others.
+ * "All" below means that every action needs the element; "full" that NEWT, MODI, CORR and REVI need it. TERM, EROR and PRTO
+ * take the elements 1 to 5 and no others.
  *
  * A date is YYYY-MM-DD, from the year 1900 on. A time is a date, T, hh:mm:ss and Z. A truth is True, False, true or false.
  * A currency is an alphabetic code of ISO 4217, a location an assigned two-letter code of ISO 3166-1, both as of 1 July 2024.
  */
 
-#define SDR_LAST_CODE 33 /* the codes are 1 up to this, without 29 */
+#define SDR_LAST_CODE 28 /* the codes are 1 up to this */
 
 enum sdr_element_code {
     SDR_UTI = 1,                      /* all; 21 to 52 capitals or digits; names the swap */
-    SDR_ACTION_TYPE = 2,              /* all; NEWT, MODI, CORR, TERM, EROR, REVI, PRTO or VALU */
-    SDR_EVENT_TYPE = 3,               /* 4 capitals; goes with the action, as TRAD with NEWT; none with CORR, EROR, REVI,
-                                         VALU */
+    SDR_ACTION_TYPE = 2,              /* all; NEWT, MODI, CORR, TERM, EROR, REVI or PRTO */
+    SDR_EVENT_TYPE = 3,               /* 4 capitals; goes with the action, as TRAD with NEWT; none with CORR, EROR, REVI */
     SDR_EVENT_TIMESTAMP = 4,          /* all; time */
     SDR_REPORTING_TIMESTAMP = 5,      /* all; time */
     SDR_EXECUTION_TIMESTAMP = 6,      /* full; time */
@@ -130,52 +119,42 @@ enum sdr_element_code {
     SDR_ASSET_CLASS = 25,             /* full; CR, IR, FX, EQ or CO; says which cap applies */
     SDR_PACKAGE_SPREAD = 26,          /* optional; of 17's form; a package has 17 or 26 */
     SDR_SPREAD_NOTATION = 27,         /* if 15 is true and 26 is there; 1, 3 or 4 */
-    SDR_SPREAD_CURRENCY = 28,         /* if 15 is true, 26 is there and 27 is 1; currency */
-    SDR_VALUATION_AMOUNT = 30,        /* VALU; number, minus allowed, 25 digits, 5 after the point */
-    SDR_VALUATION_CURRENCY = 31,      /* VALU; currency */
-    SDR_VALUATION_TIMESTAMP = 32,     /* VALU; time; not before the one that is held of the swap */
-    SDR_VALUATION_METHOD = 33         /* VALU; MTMA, MTMO or CCPV */
+    SDR_SPREAD_CURRENCY = 28          /* if 15 is true, 26 is there and 27 is 1; currency */
 };
 
 /* ---- Verdicts (section 9) ----
  *
  * An operation judges its rules one after the other and answers the first one that is broken. The order:
  *
- *   sdr_open        1, 2
- *   sdr_submit      3, 20, 4, 5, 6, 7, 8, 9, 10, 11, 19, 12, 13, 14, 15, 21, 16, 17, 18
- *   sdr_status      3, 9, 14
- *   sdr_totals      3
- *   sdr_valuation   3, 20, 9, 14
+ *   sdr_open     1, 2
+ *   sdr_submit   3, 4, 5, 6, 7, 8, 9, 10, 11, 19, 12, 13, 14, 15, 16, 17, 18
+ *   sdr_status   3, 9, 14
+ *   sdr_totals   3
  *
  * The element is 0 unless a comment below says otherwise.
  */
 
 enum sdr_verdict_code {
     /* any operation */
-    SDR_ACCEPTED = 0, /* done; for sdr_status, sdr_totals and sdr_valuation: answered */
+    SDR_ACCEPTED = 0, /* done; for sdr_status and sdr_totals: answered */
 
     /* sdr_open */
     SDR_LEDGER_SHORT = 1, /* the buffer is shorter than SDR_SHORTEST_LEDGER */
     SDR_CAP_WRONG = 2,    /* a cap is out of bounds, or rounding it as an amount would change it */
 
-    /* any operation but sdr_open */
+    /* sdr_submit, sdr_status and sdr_totals */
     SDR_LEDGER_WRONG = 3, /* the ledger is too short, or its header is none that fits this length: not opened, damaged,
                              or lent at another length. The four totals have to add up to the rows in use */
 
-    /* sdr_submit and sdr_valuation */
-    SDR_VALUES_WRONG = 20, /* the length of the valuation table is not SDR_VALUES_SIZE of the ledger's capacity; judged for
-                              every message */
-
     /* sdr_submit */
-    SDR_TAPE_SHORT = 4,           /* the tape buffer is shorter than SDR_LINE_SIZE; judged for PRTO and VALU too */
+    SDR_TAPE_SHORT = 4,           /* the tape buffer is shorter than SDR_LINE_SIZE; judged for PRTO too */
     SDR_LAYOUT_WRONG = 5,         /* counts, codes or offsets of the message are wrong, or it is too long */
-    SDR_ACTION_WRONG = 6,         /* no action, or not one of the eight; small letters count as other letters.
+    SDR_ACTION_WRONG = 6,         /* no action, or not one of the seven; small letters count as other letters.
                                      Element: 2 */
-    SDR_ELEMENT_MISSING = 7,      /* an element that all messages need, or messages of this action, is missing. Element: the
-                                     lowest such */
-    SDR_ELEMENT_NOT_TAKEN = 8,    /* an element that the action does not take. Element: the lowest such */
+    SDR_ELEMENT_MISSING = 7,      /* an element that all messages or full ones need is missing. Element: the lowest such */
+    SDR_ELEMENT_NOT_TAKEN = 8,    /* TERM, EROR or PRTO with an element above 5. Element: the lowest such */
     SDR_FORM_BROKEN = 9,          /* a value is not of its element's form, needed or not. Element: the lowest such.
-                                     sdr_status and sdr_valuation: the UTI is not of its form. Element: 1 */
+                                     sdr_status: the UTI is not of its form. Element: 1 */
     SDR_NOT_A_PAIR = 10,          /* this event, or no event, does not go with this action */
     SDR_CONDITIONAL_MISSING = 11, /* an element whose condition is met is missing. Element: the lowest such */
     SDR_PRICE_TOO_LONG = 12,      /* a package's price or spread has more digits than its notation allows. Notation 3: 11,
@@ -183,24 +162,23 @@ enum sdr_verdict_code {
     SDR_DATES_DISORDERED = 13,    /* in a full message: expiration before effective date, settlement before expiration,
                                      or reporting before execution */
     SDR_ROW_WRONG = 14,           /* the ledger is damaged: the status or the identifier of the swap's row is none that can
-                                     be, or the total of this status is 0. sdr_status and sdr_valuation answer this too */
+                                     be, or the total of this status is 0. sdr_status answers this too */
     SDR_NOT_ADMITTED = 15,        /* the swap's status does not allow the action; see the statuses */
     SDR_OTHER_TIME = 16,          /* MODI or REVI gives another execution time than the swap has */
     SDR_LEDGER_FULL = 17,         /* NEWT, and every row is in use */
     SDR_IDENTIFIERS_SPENT = 18,   /* a line is due, and no identifier is left; see sdr_submit for messages without a line */
-    SDR_PRICE_AND_SPREAD = 19,    /* a package has both price and spread */
-    SDR_VALUATION_EARLIER = 21    /* VALU gives an earlier valuation time than the one that is held of the swap */
+    SDR_PRICE_AND_SPREAD = 19     /* a package has both price and spread */
 };
 
 /* ---- Statuses (section 5) ----
  *
- * NEWT makes an unknown swap live. MODI, CORR and VALU leave the status as it is, TERM closes, EROR makes errored, REVI makes
- * live again, PRTO makes ported.
+ * NEWT makes an unknown swap live. MODI and CORR leave the status as it is, TERM closes, EROR makes errored, REVI makes live
+ * again, PRTO makes ported.
  */
 
 enum sdr_status_code {
     SDR_UNKNOWN = 0, /* not in the ledger; admits NEWT */
-    SDR_LIVE = 1,    /* admits MODI, CORR, TERM, EROR, PRTO, VALU */
+    SDR_LIVE = 1,    /* admits MODI, CORR, TERM, EROR, PRTO */
     SDR_CLOSED = 2,  /* admits CORR, EROR, REVI */
     SDR_ERRORED = 3, /* admits REVI */
     SDR_PORTED = 4   /* admits nothing */
@@ -235,19 +213,15 @@ uint32_t sdr_open(uint8_t *ledger, size_t ledger_len, uint64_t cap_cr, uint64_t 
  *   bits 16 to 23   0
  *   bits 24 to 63   identifier of the line that was written; 0 if no line was written
  *
- * The identifier tells whether an accepted message wrote a line. Three kinds of messages write none, and no byte of the tape
- * buffer: PRTO, VALU, and a MODI that shows nothing new. That is one whose line would have, from the execution time on, what
- * the ledger has of the swap already; its event and event time do not matter. Any other message writes one line into the
- * first SDR_LINE_SIZE bytes and leaves later ones as they are. Identifiers count the lines of a ledger from 1. In the ledger,
+ * The identifier tells whether an accepted message wrote a line. Two kinds of messages write none, and no byte of the tape
+ * buffer: PRTO, and a MODI that shows nothing new. That is one whose line would have, from the execution time on, what the
+ * ledger has of the swap already; its event and event time do not matter. Any other message writes one line into the first
+ * SDR_LINE_SIZE bytes and leaves later ones as they are. Identifiers count the lines of a ledger from 1. In the ledger,
  * acceptance changes the swap's row (NEWT: the next free one) and, in the header, the rows in use (NEWT alone), the next
- * identifier (with every line) and the totals (where the status changes). A MODI that shows nothing new changes no byte, nor
- * does VALU.
- *
- * In the valuation table, VALU writes the record of the swap, and NEWT fills the record of the row that it takes with zeros.
- * No other message writes the table. Beside a ledger just opened it may hold any bytes.
+ * identifier (with every line) and the totals (where the status changes). A MODI that shows nothing new changes no byte.
  */
-uint64_t sdr_submit(uint8_t *ledger, size_t ledger_len, uint8_t *values, size_t values_len, uint8_t *tape, size_t tape_len,
-                    const uint8_t *message, size_t message_len);
+uint64_t sdr_submit(uint8_t *ledger, size_t ledger_len, uint8_t *tape, size_t tape_len, const uint8_t *message,
+                    size_t message_len);
 
 /*
  * Tells the status of the swap with this UTI. Writes nothing.
@@ -273,31 +247,6 @@ uint64_t sdr_status(const uint8_t *ledger, size_t ledger_len, const uint8_t *uti
  */
 uint32_t sdr_totals(const uint8_t *ledger, size_t ledger_len, uint32_t totals[4]);
 
-/*
- * Tells the valuation that is held of the swap with this UTI. Writes the array and nothing else.
- *
- * The answer, to be read by the accessors below:
- *
- *   bits  0 to  7   verdict
- *   bits  8 to 15   element named by the verdict, or 0
- *   bits 16 to 23   1 if a valuation is held, else 0; 0 beside a refusal
- *   bits 24 to 63   0
- *
- * Where a valuation is held, the array has the swap's record as it stands in the table. While the core alone has changed the
- * table, it is that of the last VALU accepted; the swap may have been closed, errored or ported since then:
- *
- *   offset  0, 1 byte     1
- *   offset  1, 27 bytes   valuation amount as it was sent, padded with spaces
- *   offset 28, 3 bytes    valuation currency
- *   offset 31, 20 bytes   valuation timestamp
- *   offset 51, 4 bytes    valuation method, padded with spaces
- *   offset 55, 1 byte     0
- *
- * Where none is held, where the swap is unknown, and beside a refusal, the array has zeros.
- */
-uint64_t sdr_valuation(const uint8_t *ledger, size_t ledger_len, const uint8_t *values, size_t values_len, const uint8_t *uti,
-                       size_t uti_len, uint8_t record[SDR_RECORD_SIZE]);
-
 /* ---- Reading an answer ---- */
 
 /* The verdict, one of enum sdr_verdict_code. The answers of sdr_open and sdr_totals can be passed too. */
@@ -312,7 +261,7 @@ static inline unsigned sdr_element(uint64_t answer)
     return (unsigned)((answer >> 8) & 0xff);
 }
 
-/* For answers of sdr_status the status, one of enum sdr_status_code; for those of sdr_valuation 1 if a valuation is held. */
+/* The status, one of enum sdr_status_code; for answers of sdr_status. */
 static inline unsigned sdr_state(uint64_t answer)
 {
     return (unsigned)((answer >> 16) & 0xff);
@@ -348,8 +297,6 @@ static inline const char *sdr_verdict_text(unsigned verdict)
     case SDR_LEDGER_FULL: return "ledger full";
     case SDR_IDENTIFIERS_SPENT: return "identifiers spent";
     case SDR_PRICE_AND_SPREAD: return "package with both price and spread";
-    case SDR_VALUES_WRONG: return "valuation table of another length";
-    case SDR_VALUATION_EARLIER: return "valuation earlier than the one held";
     default: return "no such verdict";
     }
 }

@@ -85,8 +85,7 @@ fn mixed_day(messages: usize) -> Result<Vec<u8>, String> {
     let mut bytes = Vec::new();
     for number in 1..=messages {
         let sent = day.next(&ledger);
-        let (lent, values) = (&mut ledger.bytes, &mut ledger.values);
-        let answer = Checker.submit(lent, values, &mut [0; LINE_SIZE], &sent.message);
+        let answer = Checker.submit(&mut ledger.bytes, &mut [0; LINE_SIZE], &sent.message);
         if !sent.due.is_met(answer) {
             let due = sent.due;
             return Err(format!("message {number}: {answer:?}, due is {due}"));

@@ -2,7 +2,7 @@
 
 use crate::messages::set_package;
 use compare::layout::{COUNT_SIZE, ENTRY_SIZE};
-use compare::lists::codes;
+use compare::lists::LAST_CODE;
 use compare::message::Message;
 use compare::random::Random;
 
@@ -15,7 +15,7 @@ const SECOND_CODE: usize = COUNT_SIZE + ENTRY_SIZE;
 pub fn layout_wrong(number: usize, message: &Message) -> Vec<u8> {
     let mut bytes = message.encode();
     match number % 4 {
-        0 => bytes[0] = codes().count() as u8 + 1,
+        0 => bytes[0] = LAST_CODE + 1,
         1 => bytes[FIRST_OFFSET] += 1,
         2 => bytes[SECOND_CODE] = 1,
         _ => {
@@ -29,7 +29,7 @@ pub fn layout_wrong(number: usize, message: &Message) -> Vec<u8> {
     bytes
 }
 
-/// Verdict 6: no action or none of the eight, by number.
+/// Verdict 6: no action or none of the seven, by number.
 pub fn action_wrong(number: usize, message: &Message) -> Message {
     match ["", "newt", "NEW", "NEWTS", "OPEN", "NEWX"][number % 6] {
         "" => message.without(2),

@@ -2,8 +2,8 @@
 
 use crate::due::Due;
 use crate::faults;
-use crate::ledgers::{put_header_back, put_record_back, put_row_back, Ledger};
-use crate::messages::{sound, sound_new, sound_new_by_spread, sound_showing, sound_valuation};
+use crate::ledgers::{put_header_back, put_row_back, Ledger};
+use crate::messages::{sound, sound_new, sound_new_by_spread, sound_showing};
 use crate::mixed::{Mixed, Sent};
 use crate::utis::Shape;
 use compare::random::Random;
@@ -17,26 +17,24 @@ pub const ROWS: [usize; 4] = [0, 400, 10_000, LARGEST_CAPACITY];
 const PORTING: usize = 20;
 
 /// What is put back after a submission, so that the next one meets the same
-/// ledger and the same valuation table.
+/// ledger.
 #[derive(Clone, Copy)]
 pub enum PutBack {
     Nothing,
     Header,
     HeaderAndRow(usize),
-    Record(usize),
 }
 
 impl PutBack {
-    /// Copies it from a saved ledger and table.
-    pub fn copy(self, ledger: &mut [u8], values: &mut [u8], saved: &Ledger) {
+    /// Copies it from a saved ledger.
+    pub fn copy(self, ledger: &mut [u8], saved: &[u8]) {
         match self {
             PutBack::Nothing => {}
-            PutBack::Header => put_header_back(ledger, &saved.bytes),
+            PutBack::Header => put_header_back(ledger, saved),
             PutBack::HeaderAndRow(place) => {
-                put_header_back(ledger, &saved.bytes);
-                put_row_back(ledger, &saved.bytes, place);
+                put_header_back(ledger, saved);
+                put_row_back(ledger, saved, place);
             }
-            PutBack::Record(place) => put_record_back(values, &saved.values, place),
         }
     }
 }
@@ -58,13 +56,11 @@ pub enum Kind {
     KnownSwap,
     TermLast,
     ShowsNothing,
-    ValuationUnknown,
-    ValuationLast,
     MixedDay,
 }
 
 impl Kind {
-    pub const ALL: [Kind; 11] = [
+    pub const ALL: [Kind; 9] = [
         Kind::AcceptedNew,
         Kind::AcceptedSpread,
         Kind::LayoutWrong,
@@ -73,8 +69,6 @@ impl Kind {
         Kind::KnownSwap,
         Kind::TermLast,
         Kind::ShowsNothing,
-        Kind::ValuationUnknown,
-        Kind::ValuationLast,
         Kind::MixedDay,
     ];
 
@@ -88,29 +82,17 @@ impl Kind {
             Kind::KnownSwap => "NEWT of the last row's swap (verdict 15)",
             Kind::TermLast => "TERM of the last row accepted",
             Kind::ShowsNothing => "MODI of the last row that shows nothing",
-            Kind::ValuationUnknown => "VALU of an unknown swap (verdict 15)",
-            Kind::ValuationLast => "VALU of the last row accepted",
             Kind::MixedDay => "mixed day",
         }
-    }
-
-    /// Whether messages of the kind are about swaps that are known.
-    fn asks_for_rows(self) -> bool {
-        matches!(
-            self,
-            Kind::KnownSwap
-                | Kind::TermLast
-                | Kind::ShowsNothing
-                | Kind::ValuationLast
-                | Kind::MixedDay
-        )
     }
 
     /// The rows in use for one of the sizes, or none where the kind asks for a
     /// known swap and there is none. Where a NEWT is accepted one row stays free.
     pub fn rows(self, size: usize) -> Option<usize> {
         match self {
-            _ if size == 0 && self.asks_for_rows() => None,
+            Kind::KnownSwap | Kind::TermLast | Kind::ShowsNothing | Kind::MixedDay if size == 0 => {
+                None
+            }
             Kind::AcceptedNew | Kind::AcceptedSpread | Kind::MixedDay => {
                 Some(size.min(LARGEST_CAPACITY - 1))
             }
@@ -148,15 +130,6 @@ impl Kind {
             Kind::ShowsNothing => each(count, Due::NoLine, PutBack::Nothing, |_| {
                 sound_showing(random, &ledger.uti(last), ledger.terms(last)).encode()
             }),
-            Kind::ValuationUnknown => refused(count, NOT_ADMITTED, |number| {
-                sound_valuation(random, &unknown(number), None).encode()
-            }),
-            Kind::ValuationLast => {
-                let held = ledger.valuation_time(last);
-                each(count, Due::NoLine, PutBack::Record(last), |_| {
-                    sound_valuation(random, &ledger.uti(last), held.as_deref()).encode()
-                })
-            }
             Kind::MixedDay => mixed(ledger, count),
         }
     }

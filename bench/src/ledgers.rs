@@ -1,26 +1,23 @@
 //! Ledgers with many rows, put together without submitting every swap.
 
-use crate::messages::{sound_new, sound_valuation};
+use crate::messages::sound_new;
 use crate::utis::Shape;
-use compare::layout::{record_range, RECORD_SIZE, TIME_IN_RECORD};
 use compare::layout::{row_range, u32_at, EXECUTION_IN_TERMS, TERMS_IN_ROW, TERMS_SIZE};
 use compare::layout::{total_place, Caps, CAPACITY_IN_HEADER, DAY_CAPS, NEXT_IN_HEADER};
 use compare::layout::{IDENTIFIER_IN_ROW, LENGTH_IN_ROW, ROWS_IN_HEADER, STATUS_IN_ROW};
 use compare::layout::{TOTALS, TOTALS_IN_HEADER, UTI_IN_ROW};
 use compare::random::Random;
-use compare::valuations::{held, record_of};
-use sdr::{ledger_size, values_size, ACCEPTED, CLOSED, ERRORED, LIVE, PORTED};
+use sdr::{ledger_size, ACCEPTED, CLOSED, ERRORED, LIVE, PORTED};
 use sdr::{HEADER_SIZE, LARGEST_CAPACITY, LINE_SIZE};
 
 /// The caps of every ledger that is measured.
 pub const CAPS: Caps = DAY_CAPS;
-/// So many different terms and valuations are dealt out over the rows.
+/// So many different terms are dealt out over the rows.
 const PATTERNS: usize = 64;
 
-/// The bytes of a ledger and of the valuation table beside it.
+/// A ledger's bytes.
 pub struct Ledger {
     pub bytes: Vec<u8>,
-    pub values: Vec<u8>,
 }
 
 impl Ledger {
@@ -28,17 +25,14 @@ impl Ledger {
     pub fn opened(capacity: usize) -> Ledger {
         let mut bytes = vec![0; ledger_size(capacity)];
         assert_eq!(checker::open(&mut bytes, &CAPS), ACCEPTED);
-        let values = vec![0; values_size(capacity)];
-        Ledger { bytes, values }
+        Ledger { bytes }
     }
 
     /// A ledger with so many rows in use, and room for one more unless that is
-    /// above the largest capacity. The last row is live. Three swaps in four have
-    /// a valuation, and so has the last one.
+    /// above the largest capacity. The last row is live.
     pub fn with_rows(rows: usize, shape: Shape) -> Ledger {
         let mut ledger = Ledger::opened((rows + 1).min(LARGEST_CAPACITY));
         let patterns = patterns();
-        let records = records();
         let mut totals = [0_u32; TOTALS];
         for place in 0..rows {
             let row = row_mut(&mut ledger.bytes, place);
@@ -46,10 +40,6 @@ impl Ledger {
             name_row(row, &shape.uti(place), place as u64 + 1);
             row[STATUS_IN_ROW] = status_at(place, rows);
             totals[total_place(row[STATUS_IN_ROW])] += 1;
-            if !place.is_multiple_of(4) || place + 1 == rows {
-                let record = &records[place % PATTERNS];
-                ledger.values[record_range(place)].copy_from_slice(record);
-            }
         }
         let totals = totals.map(u32::to_le_bytes);
         ledger.bytes[TOTALS_IN_HEADER].copy_from_slice(totals.as_flattened());
@@ -91,18 +81,6 @@ impl Ledger {
     pub fn execution_time(&self, place: usize) -> String {
         text(&self.terms(place)[EXECUTION_IN_TERMS])
     }
-
-    /// The valuation time that is held of a row's swap.
-    pub fn valuation_time(&self, place: usize) -> Option<String> {
-        held(&self.values, place).map(|record| text(&record[TIME_IN_RECORD]))
-    }
-}
-
-/// Records as sound valuations write them.
-fn records() -> Vec<[u8; RECORD_SIZE]> {
-    let random = &mut Random::new(4);
-    let record = |_| record_of(&sound_valuation(random, "", None));
-    (0..PATTERNS).map(record).collect()
 }
 
 /// Most swaps are live, some are closed, few errored or ported.
@@ -127,8 +105,7 @@ fn patterns() -> Vec<Vec<u8>> {
 fn pattern(random: &mut Random, number: usize) -> Vec<u8> {
     let mut ledger = Ledger::opened(1);
     let message = sound_new(random, &Shape::SharedPrefix.uti(number)).encode();
-    let (bytes, values) = (&mut ledger.bytes, &mut ledger.values);
-    let answer = checker::submit(bytes, values, &mut [0; LINE_SIZE], &message);
+    let answer = checker::submit(&mut ledger.bytes, &mut [0; LINE_SIZE], &message);
     assert_eq!(answer.verdict, ACCEPTED);
     ledger.row(0).to_vec()
 }
@@ -152,11 +129,6 @@ pub fn put_header_back(ledger: &mut [u8], saved: &[u8]) {
 /// Puts one row of a saved copy back.
 pub fn put_row_back(ledger: &mut [u8], saved: &[u8], place: usize) {
     row_mut(ledger, place).copy_from_slice(&saved[row_range(place)]);
-}
-
-/// Puts one record of a saved table back.
-pub fn put_record_back(values: &mut [u8], saved: &[u8], place: usize) {
-    values[record_range(place)].copy_from_slice(&saved[record_range(place)]);
 }
 
 fn text(bytes: &[u8]) -> String {

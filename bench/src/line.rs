@@ -6,7 +6,7 @@ use crate::kinds::Case;
 use crate::ledgers::Ledger;
 use crate::timing::{measure, Figures, Run};
 use compare::judge::{Checker, Core, Judge};
-use sdr::{ledger_size, values_size, Answer, LINE_SIZE};
+use sdr::{ledger_size, Answer, LINE_SIZE};
 use std::hint::black_box;
 use std::time::{Duration, Instant};
 
@@ -14,18 +14,16 @@ use std::time::{Duration, Instant};
 #[derive(Clone)]
 struct Lent {
     ledger: Vec<u8>,
-    values: Vec<u8>,
     tape: [u8; LINE_SIZE],
 }
 
 impl Lent {
     fn submit(&mut self, judge: &impl Judge, message: &[u8]) -> Answer {
-        judge.submit(&mut self.ledger, &mut self.values, &mut self.tape, message)
+        judge.submit(&mut self.ledger, &mut self.tape, message)
     }
 
     fn put_back(&mut self, case: &Case, saved: &Ledger) {
-        case.put_back
-            .copy(&mut self.ledger, &mut self.values, saved);
+        case.put_back.copy(&mut self.ledger, &saved.bytes);
     }
 }
 
@@ -40,7 +38,6 @@ impl Line {
     pub fn new(saved: Ledger, cases: Vec<Case>) -> Line {
         let lent = Lent {
             ledger: saved.bytes.clone(),
-            values: saved.values.clone(),
             tape: [0; LINE_SIZE],
         };
         Line { cases, saved, lent }
@@ -86,7 +83,6 @@ impl Line {
 
     fn restore(&mut self) {
         self.lent.ledger.copy_from_slice(&self.saved.bytes);
-        self.lent.values.copy_from_slice(&self.saved.values);
         self.lent.tape.fill(0);
     }
 
@@ -98,8 +94,7 @@ impl Line {
     }
 
     /// Holds the core to the checker and both to what is due, on every
-    /// message: answers, and every byte of ledger, valuation table and tape
-    /// buffer.
+    /// message: answers, and every byte of ledger and tape buffer.
     pub fn compare(&mut self) -> Result<(), String> {
         self.restore();
         let mut checkers = self.lent.clone();
@@ -134,17 +129,13 @@ fn different_bytes(one: &Lent, other: &Lent) -> Option<String> {
     if one.ledger != other.ledger {
         return Some("the ledgers differ".to_string());
     }
-    if one.values != other.values {
-        return Some("the valuation tables differ".to_string());
-    }
     (one.tape != other.tape).then(|| "the tape buffers differ".to_string())
 }
 
-/// A change that was not put back. What a NEWT wrote into a free row and its
-/// record stays; nothing reads it.
+/// A change that was not put back. What a NEWT wrote into a free row stays;
+/// nothing reads it.
 fn left_over(lent: &Lent, saved: &Ledger) -> Option<String> {
-    let (used, records) = (ledger_size(saved.rows()), values_size(saved.rows()));
-    let changed = lent.ledger[..used] != saved.bytes[..used]
-        || lent.values[..records] != saved.values[..records];
+    let used = ledger_size(saved.rows());
+    let changed = lent.ledger[..used] != saved.bytes[..used];
     changed.then(|| "what it changed is not put back".to_string())
 }

@@ -3,8 +3,8 @@
 //! `bench measure [PATTERN]` compares and measures the lines whose name has
 //! the pattern in it, `bench check [PATTERN]` only compares them, on fewer
 //! messages. `bench repeat SIDE PASSES PATTERN` runs one side of the first
-//! such line of submissions, of totals or of valuation questions, for a tool
-//! that counts instructions, and tells how many there were.
+//! such line of submissions or of totals, for a tool that counts instructions,
+//! and tells how many there were.
 
 mod days;
 mod due;
@@ -20,7 +20,6 @@ mod table;
 mod timing;
 mod totals;
 mod utis;
-mod valuations;
 
 use std::process::ExitCode;
 
@@ -58,10 +57,9 @@ fn run(mode: Mode, pattern: &str) -> Result<(), String> {
     let lines = lines_with(pattern);
     let mut searches = search::Plan::all();
     searches.retain(|plan| plan.name().contains(pattern));
-    let (totals, valuations) = (totals_with(pattern), valuations_with(pattern));
+    let totals = totals_with(pattern);
     let day = days::NAME.contains(pattern);
-    let questions = searches.len() + totals.len() + valuations.len();
-    if lines.is_empty() && questions == 0 && !day {
+    if lines.is_empty() && searches.is_empty() && totals.is_empty() && !day {
         return Err(format!("no line has '{pattern}' in its name"));
     }
     match mode {
@@ -69,7 +67,6 @@ fn run(mode: Mode, pattern: &str) -> Result<(), String> {
             lines::tell(&lines)?;
             search::tell(&searches)?;
             totals::tell(&totals)?;
-            valuations::tell(&valuations)?;
             if day {
                 days::tell()?;
             }
@@ -78,7 +75,6 @@ fn run(mode: Mode, pattern: &str) -> Result<(), String> {
             lines::check(&lines)?;
             search::check(&searches)?;
             totals::check(&totals)?;
-            valuations::check(&valuations)?;
             if day {
                 days::check()?;
             }
@@ -99,22 +95,13 @@ fn totals_with(pattern: &str) -> Vec<totals::Plan> {
     totals
 }
 
-fn valuations_with(pattern: &str) -> Vec<valuations::Plan> {
-    let mut valuations = valuations::Plan::all();
-    valuations.retain(|plan| plan.name().contains(pattern));
-    valuations
-}
-
 fn repeat(side: &str, passes: &str, pattern: &str) -> Result<(), String> {
     let passes = passes.parse().map_err(|_| USAGE.to_string())?;
-    let made = if let Some(line) = lines_with(pattern).first() {
-        lines::repeat(line, side, passes)?
-    } else if let Some(question) = totals_with(pattern).first() {
-        totals::repeat(question, side, passes)?
-    } else if let Some(question) = valuations_with(pattern).first() {
-        valuations::repeat(question, side, passes)?
-    } else {
-        return Err(format!("no line has '{pattern}' in its name"));
+    let (lines, totals) = (lines_with(pattern), totals_with(pattern));
+    let made = match (lines.first(), totals.first()) {
+        (Some(line), _) => lines::repeat(line, side, passes)?,
+        (None, Some(question)) => totals::repeat(question, side, passes)?,
+        (None, None) => return Err(format!("no line has '{pattern}' in its name")),
     };
     println!("{made}");
     Ok(())

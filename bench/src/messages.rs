@@ -3,7 +3,7 @@
 use crate::ledgers::CAPS;
 use compare::codes::{CURRENCIES, LOCATIONS};
 use compare::layout::TERMS_SIZE;
-use compare::lists::{codes, METHODS, TRUTHS};
+use compare::lists::{codes, TRUTHS};
 use compare::matrix::{events_of, is_full};
 use compare::message::Message;
 use compare::random::Random;
@@ -62,20 +62,6 @@ pub fn sound_showing(random: &mut Random, uti: &str, terms: &[u8; TERMS_SIZE]) -
             message.remove(code);
         }
     }
-    message
-}
-
-/// A sound valuation of a swap whose held valuation has this time, or that has
-/// none: of this evening, or of the held time where that is later.
-pub fn sound_valuation(random: &mut Random, uti: &str, held: Option<&str>) -> Message {
-    let mut message = sound(random, "VALU", uti, "");
-    let minus = if random.once_in(2) { "-" } else { "" };
-    let time = time_this_evening(random);
-    let latest = held.map_or(time.as_str(), |held| held.max(&time));
-    message.set(30, format!("{minus}{}", amount(random)));
-    message.set(31, random.pick(&CURRENCIES));
-    message.set(32, latest);
-    message.set(33, random.pick(&METHODS));
     message
 }
 

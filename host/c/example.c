@@ -1,10 +1,10 @@
 /*
  * A small host of the core: it opens a ledger with room for two swaps, submits the messages of two swaps' lives, and some that
- * are refused, and prints every answer, every tape line and now and then the totals and a valuation. What it must print is in
+ * are refused, and prints every answer, every tape line and now and then the totals. What it must print is in
  * example.expected.
  *
- * A real host would receive signed messages over some transport, keep ledger, valuation table and tape on disk, and publish
- * lines after the dissemination delay. Here messages are built in place and lines go to standard output at once.
+ * A real host would receive signed messages over some transport, keep ledger and tape on disk, and publish lines after the
+ * dissemination delay. Here messages are built in place and lines go to standard output at once.
  */
 #include "sdr.h"
 
@@ -20,7 +20,6 @@
 #define THIRD COOP "SWAP0003"
 
 static uint8_t ledger[SDR_LEDGER_SIZE(ROWS)];
-static uint8_t values[SDR_VALUES_SIZE(ROWS)]; /* the valuation table */
 static uint8_t tape[SDR_LINE_SIZE];
 
 /* The values of a message by element code, NULL where an element is not sent. */
@@ -104,18 +103,6 @@ static struct report full(const char *uti, const char *action, const char *event
     return report;
 }
 
-/* A valuation. */
-static struct report valuation(const char *uti, const char *amount, const char *time)
-{
-    struct report report = brief(uti, "VALU", NULL, time);
-
-    report.value[SDR_VALUATION_AMOUNT] = amount;
-    report.value[SDR_VALUATION_CURRENCY] = "USD";
-    report.value[SDR_VALUATION_TIMESTAMP] = time;
-    report.value[SDR_VALUATION_METHOD] = "MTMA"; /* mark to market */
-    return report;
-}
-
 /* ---- Asking the core and printing its answers ---- */
 
 static void print_answer(uint64_t answer)
@@ -129,7 +116,7 @@ static void print_answer(uint64_t answer)
 static void submit_bytes(const char *action, const uint8_t *message, size_t length)
 {
     static unsigned number;
-    uint64_t answer = sdr_submit(ledger, sizeof ledger, values, sizeof values, tape, sizeof tape, message, length);
+    uint64_t answer = sdr_submit(ledger, sizeof ledger, tape, sizeof tape, message, length);
 
     number++;
     printf("%2u %s: ", number, action);
@@ -190,39 +177,6 @@ static void ask_totals(void)
         print_answer(answer);
 }
 
-/* The length of a padded text without its padding. */
-static int unpadded(const char *text, int length)
-{
-    while (length > 0 && text[length - 1] == ' ')
-        length--;
-    return length;
-}
-
-/* Where a valuation record has its fields; the amount has the bytes up to the currency. */
-enum { AMOUNT_AT = 1, CURRENCY_AT = 28, TIME_AT = 31, METHOD_AT = 51 };
-
-static void print_record(const uint8_t record[SDR_RECORD_SIZE])
-{
-    const char *text = (const char *)record;
-
-    printf("%.*s %.3s at %.20s, method %.4s\n", unpadded(text + AMOUNT_AT, CURRENCY_AT - AMOUNT_AT), text + AMOUNT_AT,
-           text + CURRENCY_AT, text + TIME_AT, text + METHOD_AT);
-}
-
-static void ask_valuation(const char *uti)
-{
-    uint8_t record[SDR_RECORD_SIZE];
-    uint64_t answer = sdr_valuation(ledger, sizeof ledger, values, sizeof values, (const uint8_t *)uti, strlen(uti), record);
-
-    printf("   %s: ", uti);
-    if (sdr_verdict(answer) != SDR_ACCEPTED)
-        print_answer(answer);
-    else if (sdr_state(answer) == 0)
-        puts("no valuation");
-    else
-        print_record(record);
-}
-
 /* ---- The first swap: every action but PRTO ---- */
 
 static void first_swap_trades(void)
@@ -276,32 +230,6 @@ static void first_swap_ends(void)
     ask_totals();
 }
 
-static void first_swap_is_valued(void)
-{
-    struct report report = valuation(FIRST, "-125000.50", "2025-03-06T17:00:00Z");
-
-    ask_valuation(FIRST);
-    submit(&report); /* accepted without a line: nobody but the host sees a valuation */
-    ask_valuation(FIRST);
-    report = valuation(FIRST, "-99999", "2025-03-05T17:00:00Z");
-    submit(&report); /* 21: it is of the day before */
-    report = valuation(FIRST, "-130000", "2025-03-06T17:00:00Z");
-    submit(&report); /* of the same time, so it takes the place of the first one */
-    ask_valuation(FIRST);
-
-    report.value[SDR_EVENT_TYPE] = "UPDT";
-    submit(&report); /* 8, element 3: a valuation has no event */
-    report = valuation(FIRST, "1e5", "2025-03-07T17:00:00Z");
-    submit(&report); /* 9, element 30 */
-    report.value[SDR_VALUATION_METHOD] = NULL;
-    submit(&report); /* 7, element 33 */
-    report = valuation(SECOND, "0", "2025-03-06T17:00:00Z");
-    submit(&report); /* 15: the swap is unknown */
-    ask(FIRST);
-    ask_valuation(FIRST);
-    ask_valuation(SECOND);
-}
-
 /* ---- The second swap: a package, sent wrong four times, accepted, given a spread in place of its price, then ported ---- */
 
 static struct report package(void)
@@ -341,7 +269,6 @@ static void second_swap(void)
     report = package();
     submit(&report);
     ask_totals();
-    ask_valuation(SECOND);
 
     report.value[SDR_ACTION_TYPE] = "MODI";
     report.value[SDR_EVENT_TIMESTAMP] = "2025-03-06T11:00:00Z";
@@ -352,18 +279,13 @@ static void second_swap(void)
     report.value[SDR_PACKAGE_PRICE] = NULL;
     submit(&report); /* without a price its notation and currency are left out */
 
-    report = valuation(SECOND, "750", "2025-03-06T17:00:00Z");
-    submit(&report);
     report = brief(SECOND, "PRTO", "PTNG", "2025-03-07T09:00:00Z");
     submit(&report); /* accepted without a line */
     ask(SECOND);
     ask_totals(); /* a swap that is ported still has its row */
-    report = valuation(SECOND, "800", "2025-03-07T17:00:00Z");
-    submit(&report);       /* 15: it is not live any more */
-    ask_valuation(SECOND); /* what is held stays */
 }
 
-/* ---- The ledger is full, and questions that get no answer ---- */
+/* ---- The ledger is full, and questions that get no status ---- */
 
 static void third_swap(void)
 {
@@ -372,10 +294,6 @@ static void third_swap(void)
     submit(&report); /* 17 */
     ask(THIRD);
     ask("swap 3"); /* 9: no UTI */
-    ask_valuation("swap 3");
-    report = valuation(FIRST, "12345678901234567890.12345", "2025-03-07T17:00:00Z");
-    submit(&report); /* the swaps that have a row can be valued */
-    ask_valuation(FIRST);
 }
 
 /* ---- Buffers and caps that do not do ---- */
@@ -402,19 +320,13 @@ static void odd_submissions(void)
     size_t length = encode(&report, message);
 
     print_call("submit, tape buffer one byte too short",
-              sdr_submit(ledger, sizeof ledger, values, sizeof values, tape, SDR_LINE_SIZE - 1, message, length));
-    print_call("submit, no tape buffer",
-              sdr_submit(ledger, sizeof ledger, values, sizeof values, NULL, 0, message, length));
-    print_call("submit, valuation table one byte too short",
-              sdr_submit(ledger, sizeof ledger, values, sizeof values - 1, tape, sizeof tape, message, length));
-    print_call("submit, no valuation table", sdr_submit(ledger, sizeof ledger, NULL, 0, tape, sizeof tape, message, length));
-    print_call("submit, no message",
-              sdr_submit(ledger, sizeof ledger, values, sizeof values, tape, sizeof tape, NULL, 0));
-    print_call("submit, no ledger", sdr_submit(NULL, 0, values, sizeof values, tape, sizeof tape, message, length));
-    print_call("submit, nothing", sdr_submit(NULL, 0, NULL, 0, NULL, 0, NULL, 0));
+              sdr_submit(ledger, sizeof ledger, tape, SDR_LINE_SIZE - 1, message, length));
+    print_call("submit, no tape buffer", sdr_submit(ledger, sizeof ledger, NULL, 0, message, length));
+    print_call("submit, no message", sdr_submit(ledger, sizeof ledger, tape, sizeof tape, NULL, 0));
+    print_call("submit, no ledger", sdr_submit(NULL, 0, tape, sizeof tape, message, length));
+    print_call("submit, nothing", sdr_submit(NULL, 0, NULL, 0, NULL, 0));
     print_call("submit, ledger at another length",
-              sdr_submit(ledger, SDR_LEDGER_SIZE(ROWS - 1), values, SDR_VALUES_SIZE(ROWS - 1), tape, sizeof tape, message,
-                         length));
+              sdr_submit(ledger, SDR_LEDGER_SIZE(ROWS - 1), tape, sizeof tape, message, length));
 }
 
 static void odd_questions(void)
@@ -430,51 +342,17 @@ static void odd_questions(void)
     print_totals(totals);
 }
 
-/* How many bytes of a record are not zero. */
-static unsigned written(const uint8_t record[SDR_RECORD_SIZE])
-{
-    unsigned at, count = 0;
-
-    for (at = 0; at < SDR_RECORD_SIZE; at++)
-        count += record[at] != 0;
-    return count;
-}
-
-static void odd_valuations(void)
-{
-    const uint8_t *uti = (const uint8_t *)FIRST;
-    uint8_t record[SDR_RECORD_SIZE];
-
-    memset(record, 'x', sizeof record);
-    print_call("valuation, nothing", sdr_valuation(NULL, 0, NULL, 0, NULL, 0, record));
-    printf("   %u bytes\n", written(record)); /* zeros in the place of what the array held */
-    print_call("valuation, no valuation table",
-              sdr_valuation(ledger, sizeof ledger, NULL, 0, uti, strlen(FIRST), record));
-    print_call("valuation, no UTI", sdr_valuation(ledger, sizeof ledger, values, sizeof values, NULL, 0, record));
-    print_call("valuation",
-              sdr_valuation(ledger, sizeof ledger, values, sizeof values, uti, strlen(FIRST), record));
-    printf("   %u bytes\n", written(record)); /* all but the last */
-}
-
-static const char *compared(const uint8_t *before, const uint8_t *after, size_t length)
-{
-    return memcmp(before, after, length) == 0 ? "unchanged" : "changed";
-}
-
 static void odd_calls(void)
 {
-    static uint8_t ledger_before[sizeof ledger], values_before[sizeof values], tape_before[sizeof tape];
+    static uint8_t ledger_before[sizeof ledger], tape_before[sizeof tape];
 
     memcpy(ledger_before, ledger, sizeof ledger);
-    memcpy(values_before, values, sizeof values);
     memcpy(tape_before, tape, sizeof tape);
     odd_openings();
     odd_submissions();
     odd_questions();
-    odd_valuations();
-    printf("ledger %s, ", compared(ledger_before, ledger, sizeof ledger));
-    printf("valuation table %s, ", compared(values_before, values, sizeof values));
-    printf("tape buffer %s\n", compared(tape_before, tape, sizeof tape));
+    printf("ledger %s, tape buffer %s\n", memcmp(ledger_before, ledger, sizeof ledger) == 0 ? "unchanged" : "changed",
+           memcmp(tape_before, tape, sizeof tape) == 0 ? "unchanged" : "changed");
 }
 
 int main(void)
@@ -489,7 +367,6 @@ int main(void)
     }
     first_swap_trades();
     first_swap_ends();
-    first_swap_is_valued();
     second_swap();
     third_swap();
     odd_calls();

@@ -2,7 +2,6 @@
 use Prim.Native.Nat.{ℕ}
 use mathlib.Core.Bool.{Bool, true, false, not, false≢true}
 use mathlib.Core.Path.{◌≡◌, refl, sym, ap, ◌∙◌, subst}
-use mathlib.Core.List.{[], ◌∷◌}
 use lib.ListN.{length}
 use lib.Dec.{eqb}
 use borrow.Author.Tests.{eqb-true}
@@ -10,10 +9,10 @@ use Rattle.octets.specs.Choice.{choose, both}
 use Rattle.octets.specs.Search.{all_from, all}
 use Rattle.octets.proofs.ChoiceLaws.{not_not}
 use Rattle.actions.specs.declared.Action.{Action}
-use Rattle.actions.specs.declared.Action.TheVariants.{Newt, Modi, Valu}
+use Rattle.actions.specs.declared.Action.TheVariants.{Newt, Modi}
 use Rattle.actions.specs.Statuses.{unknown, live, no_step}
-use Rattle.actions.specs.Table.{◌to◌, all_actions, action_at}
-use Rattle.actions.specs.Actions.{is_full, is_valuation, writes_line, needs_change, is_new, repeats_time, step_from, next_status}
+use Rattle.actions.specs.Table.{all_actions, action_at}
+use Rattle.actions.specs.Actions.{is_full, needs_change, is_new, repeats_time, next_status}
 use Rattle.actions.proofs.TableLaws.{stands, every}
 
 -- two tests that no action passes both
@@ -35,15 +34,6 @@ is_newt = only is_new 0 refl
 pub is_modi : (a : Action) → needs_change a ≡ true → a ≡ Modi
 unfolding all_from stands
 is_modi = only needs_change 1 refl
-
-pub is_valu : (a : Action) → is_valuation a ≡ true → a ≡ Valu
-unfolding all_from stands
-is_valu = only is_valuation 7 refl
-
--- a full message is no valuation
-pub no_valuation_if_full : (a : Action) → is_full a ≡ true → is_valuation a ≡ false
-unfolding all_from
-no_valuation_if_full = never is_full is_valuation refl
 
 -- NEWT is full
 pub old_unless_full : (a : Action) → is_full a ≡ false → is_new a ≡ false
@@ -68,25 +58,10 @@ new_unknown a s e f = by (eqb s unknown) refl (subst (λ b. eqb (next_status b s
     by true g h = eqb-true s unknown g
     by false g h = absurd (false≢true (sym h))
 
--- MODI and VALU leave the status
-live_stays : (s : ℕ) → eqb (step_from (live to live ∷ []) s) no_step ≡ false → step_from (live to live ∷ []) s ≡ s
-live_stays s f = by (eqb s live) refl f
+-- MODI leaves the status
+pub modi_stays : (s : ℕ) → eqb (next_status Modi s) no_step ≡ false → next_status Modi s ≡ s
+modi_stays s f = by (eqb s live) refl f
   where
     by : (b : Bool) → eqb s live ≡ b → eqb (choose b live no_step) no_step ≡ false → choose b live no_step ≡ s
     by true g h = sym (eqb-true s live g)
     by false g h = absurd (false≢true (sym h))
-
-pub modi_stays : (s : ℕ) → eqb (next_status Modi s) no_step ≡ false → next_status Modi s ≡ s
-modi_stays = live_stays
-
-pub valu_stays : (s : ℕ) → eqb (next_status Valu s) no_step ≡ false → next_status Valu s ≡ s
-valu_stays = live_stays
-
--- a valuation is no new swap's and writes no line
-pub old_if_valuation : (a : Action) → is_valuation a ≡ true → is_new a ≡ false
-unfolding all_from
-old_if_valuation = never is_valuation is_new refl
-
-pub lineless : (a : Action) → is_valuation a ≡ true → (needs_change a ≡ false) × (writes_line a ≡ false)
-unfolding all_from
-lineless a e = (never is_valuation needs_change refl a e, never is_valuation writes_line refl a e)

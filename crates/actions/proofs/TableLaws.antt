@@ -13,7 +13,7 @@ use Rattle.octets.specs.Search.{all_from, all}
 use Rattle.octets.proofs.ChoiceLaws.{both_first, both_second}
 use Rattle.octets.proofs.SearchLaws.{all_at}
 use Rattle.actions.specs.declared.Action.{Action}
-use Rattle.actions.specs.declared.Action.TheVariants.{Newt, Modi, Corr, Term, Eror, Revi, Prto, Valu}
+use Rattle.actions.specs.declared.Action.TheVariants.{Newt, Modi, Corr, Term, Eror, Revi, Prto}
 use Rattle.actions.specs.Statuses.{live, ported, no_step}
 use Rattle.actions.specs.Table.{action_row, all_actions, action_at}
 use Rattle.actions.specs.Actions.{step_from, next_status}
@@ -45,7 +45,6 @@ stands Term = (3, lit< tt, refl)
 stands Eror = (4, lit< tt, refl)
 stands Revi = (5, lit< tt, refl)
 stands Prto = (6, lit< tt, refl)
-stands Valu = (7, lit< tt, refl)
 
 -- what a test shows of each one in the list holds of every action
 pub every : (test : Action → Bool) → all (λ k. test (action_at k)) (length all_actions) ≡ true → (a : Action) → test a ≡ true

@@ -6,7 +6,7 @@ use Rattle.octets.specs.Choice.{choose}
 use Rattle.octets.specs.Same.{look_up}
 use Rattle.actions.specs.declared.Action.{Action}
 use Rattle.actions.specs.declared.table.Kind.{Kind}
-use Rattle.actions.specs.declared.table.Kind.TheVariants.{Full, Short, Valuation}
+use Rattle.actions.specs.declared.table.Kind.TheVariants.{Full, Short}
 use Rattle.actions.specs.declared.Checked.{Checked}
 use Rattle.actions.specs.declared.Checked.TheVariants.{Fault, Value}
 use Rattle.actions.specs.declared.table.Columns.{Columns}
@@ -21,7 +21,7 @@ action_type = 2
 abbrev pub action_codes : List (String × Checked)
 action_codes = map (λ a. ((action_row a).text, Value a)) all_actions
 
--- what the value of the element says: one of the eight, or the element is at fault
+-- what the value of the element says: one of the seven, or the element is at fault
 unfoldable pub action_of : Bytes → Checked
 action_of v = look_up action_codes (Fault action_type) v
 
@@ -29,19 +29,9 @@ action_of v = look_up action_codes (Fault action_type) v
 abbrev pub is_full_kind : Kind → Bool
 is_full_kind Full = true
 is_full_kind Short = false
-is_full_kind Valuation = false
 
 abbrev pub is_full : Action → Bool
 is_full a = is_full_kind (action_row a).kind
-
--- a valuation is a message whose action is VALU
-abbrev pub is_valuation_kind : Kind → Bool
-is_valuation_kind Full = false
-is_valuation_kind Short = false
-is_valuation_kind Valuation = true
-
-abbrev pub is_valuation : Action → Bool
-is_valuation a = is_valuation_kind (action_row a).kind
 
 -- an accepted message of the action writes a line
 abbrev pub writes_line : Action → Bool

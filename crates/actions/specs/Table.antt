@@ -2,9 +2,9 @@
 use Rattle.std.specs.Prelude.{ℕ, Bool, true, false, List, [], ◌∷◌, get_or}
 use Prim.Native.String.{String}
 use Rattle.actions.specs.declared.Action.{Action}
-use Rattle.actions.specs.declared.Action.TheVariants.{Newt, Modi, Corr, Term, Eror, Revi, Prto, Valu}
+use Rattle.actions.specs.declared.Action.TheVariants.{Newt, Modi, Corr, Term, Eror, Revi, Prto}
 use Rattle.actions.specs.declared.table.Kind.{Kind}
-use Rattle.actions.specs.declared.table.Kind.TheVariants.{Full, Short, Valuation}
+use Rattle.actions.specs.declared.table.Kind.TheVariants.{Full, Short}
 use Rattle.actions.specs.Statuses.{unknown, live, closed, errored, ported}
 
 -- a step of the status, from one to another
@@ -23,7 +23,7 @@ pub record ActionRow : Type 0 where
   pub kind : Kind
   -- it is a new swap's; any other is for a swap that has a row
   pub new : Bool
-  -- every accepted message but PRTO and VALU writes a tape line
+  -- every accepted message but PRTO writes a tape line
   pub line : Bool
   -- but MODI only where its masked terms are not the stored ones
   pub change : Bool
@@ -46,10 +46,9 @@ action_row Term = row "TERM" Short false true false false (live to closed ∷ []
 action_row Eror = row "EROR" Short false true false false (live to errored ∷ closed to errored ∷ []) "------------Y"
 action_row Revi = row "REVI" Full false true false true (errored to live ∷ closed to live ∷ []) "------------Y"
 action_row Prto = row "PRTO" Short false false false false (live to ported ∷ []) "---------Y---"
-action_row Valu = row "VALU" Valuation false false false false (live to live ∷ []) "------------Y"
 
 abbrev pub all_actions : List Action
-all_actions = Newt ∷ Modi ∷ Corr ∷ Term ∷ Eror ∷ Revi ∷ Prto ∷ Valu ∷ []
+all_actions = Newt ∷ Modi ∷ Corr ∷ Term ∷ Eror ∷ Revi ∷ Prto ∷ []
 
 abbrev pub action_at : ℕ → Action
 action_at k = get_or all_actions k Newt

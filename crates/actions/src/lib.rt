@@ -1,10 +1,10 @@
-// The eight actions (specification, section 5): how they are read, which events go with each, and the steps of a swap's status.
+// The seven actions (specification, section 5): how they are read, which events go with each, and the steps of a swap's status.
 mod matrix;
 mod statuses;
 mod table;
 
 ghost use Rattle.std.specs.Prelude.{◌≡◌};
-ghost use Rattle.actions.specs.Actions.{is_full, is_valuation, writes_line, needs_change, is_new, repeats_time};
+ghost use Rattle.actions.specs.Actions.{is_full, writes_line, needs_change, is_new, repeats_time};
 
 pub use matrix::is_pair;
 pub use statuses::{CLOSED, ERRORED, LIVE, NO_STEP, PORTED, UNKNOWN, status_after};
@@ -20,7 +20,6 @@ pub enum Action {
     Eror,
     Revi,
     Prto,
-    Valu,
 }
 
 // What a check answers: the code of the element at fault, or the message's action, which the next check uses.
@@ -38,19 +37,6 @@ pub fn is_full(a: Action) -> bool
     match kind {
         Kind::Full => true,
         Kind::Short => false,
-        Kind::Valuation => false,
-    }
-}
-
-// Whether a message of the action is a valuation.
-pub fn is_valuation(a: Action) -> bool
-    ensures { result ≡ is_valuation a }
-{
-    let kind = columns_of(a).kind;
-    match kind {
-        Kind::Full => false,
-        Kind::Short => false,
-        Kind::Valuation => true,
     }
 }
 

@@ -7,12 +7,11 @@ use crate::{Action, Checked};
 use Kind::*;
 use values::{EVENT_SIZE, is_code};
 
-// The kinds of messages: full ones, short ones and valuations take and need other elements.
+// The kinds of messages: full ones and short ones take and need other elements.
 #[derive(Drop)]
 pub enum Kind {
     Full,
     Short,
-    Valuation,
 }
 
 // What the table says of an action beside its text: its row in the matrix; the kind of its messages; whether it is a new swap's, writes
@@ -38,7 +37,7 @@ const Y: bool = true;
 const N: bool = false;
 
 // How many actions and statuses there are, unknown included.
-const ACTIONS: usize = 8;
+const ACTIONS: usize = 7;
 
 const STATUSES: usize = 5;
 
@@ -58,7 +57,6 @@ pub const MATRIX: [[bool; NO_EVENT + 1]; ACTIONS] = [
     [N, N, N, N, N, N, N, N, N, N, N, N, Y], // EROR
     [N, N, N, N, N, N, N, N, N, N, N, N, Y], // REVI
     [N, N, N, N, N, N, N, N, N, Y, N, N, N], // PRTO
-    [N, N, N, N, N, N, N, N, N, N, N, N, Y], // VALU
 ];
 
 // A row, in the order of the columns.
@@ -96,7 +94,6 @@ pub fn columns_of(a: Action) -> Columns
         Eror => row(4, Short, N, Y, N, N, [0, 3, 3, 0, 0]),
         Revi => row(5, Full, N, Y, N, Y, [0, 0, 1, 1, 0]),
         Prto => row(6, Short, N, N, N, N, [0, 4, 0, 0, 0]),
-        Valu => row(7, Valuation, N, N, N, N, [0, 1, 0, 0, 0]),
     }
 }
 
@@ -124,9 +121,6 @@ pub fn read_action(v: &[u8]) -> Checked
     }
     if is_code(v, b"PRTO") {
         return Checked::Value(Prto);
-    }
-    if is_code(v, b"VALU") {
-        return Checked::Value(Valu);
     }
     Checked::Fault(ACTION_TYPE)
 }

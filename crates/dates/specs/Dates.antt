@@ -59,7 +59,7 @@ is_time v =
     both (fits_pattern time_pattern v)
     (both (names_date v) (both (ltb (two_digits v 11) 24) (both (ltb (two_digits v 14) 60) (ltb (two_digits v 17) 60))))
 
--- a date before a date, a time before a time (verdicts 13 and 21): places are fixed and the most significant comes first, so bytes are in the order of time
+-- a date before a date, a time before a time (verdict 13): places are fixed and the most significant comes first, so bytes are in the order of time
 unfoldable pub before : Bytes → Bytes → Bool
 before a [] = false
 before [] (y ∷ b) = true

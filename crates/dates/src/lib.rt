@@ -130,7 +130,7 @@ pub fn is_time(v: &[u8]) -> bool
     two_at(v, 17) < 60
 }
 
-// Whether a date is before a date, or a time before a time, in the order of bytes.
+// Whether a date is before a date, or a time before a time.
 pub fn is_before(a: &[u8], b: &[u8]) -> bool
     ensures value { result ≡ before a.now b.now }
     ensures date_order { DateOrder × TimeOrder }

@@ -3,7 +3,6 @@ use Rattle.std.specs.Prelude.{ℕ, zero, suc, ◌+◌, [], ◌++◌, length, dro
 use Rattle.octets.specs.Bytes.{Bytes}
 use Rattle.octets.specs.Choice.{choose}
 use Rattle.octets.specs.Part.{part}
-use Rattle.valuations.specs.Layout.{record_start}
 use Rattle.rules.specs.Verdicts.{layout_wrong}
 use Rattle.ledger.specs.declared.header.Caps.{Caps}
 use Rattle.ledger.specs.Layout.{row_start, line_size}
@@ -29,7 +28,7 @@ caps = record { cr = cap; ir = cap; fx = cap; eq = cap; co = cap }
 abbrev pub most_messages : ℕ
 most_messages = 1_000_000_000_000_000_000
 
--- a day so far: what is lent to a submission, messages judged, lines published
+-- a day so far: ledger and tape buffer, messages judged, lines published
 pub record Day : Type 0 where
   pub lent : Lent
   pub judged : ℕ
@@ -84,7 +83,7 @@ report_from (suc k) d xs =
 abbrev pub new_day : Day
 new_day =
     record {
-      lent = lent_of (opened document_limits caps (replicate (row_start rows) 0)).ledger (replicate (record_start rows) 0) (replicate line_size 0);
+      lent = lent_of (opened document_limits caps (replicate (row_start rows) 0)).ledger (replicate line_size 0);
       judged = 0;
       published = 0;
     }

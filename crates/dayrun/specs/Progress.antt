@@ -14,7 +14,7 @@ abbrev pub counted : Progress → ℕ → Bytes → ℕ → Progress
 counted p taken line identifier =
     record { at = p.at + taken; used = p.used + length line; judged = p.judged + 1; published = p.published + lines_of identifier; is_open = p.is_open }
 
--- the day that it counts, with what is lent
+-- the day that it counts, with ledger and tape buffer
 abbrev pub day_of : Lent → Progress → Day
 day_of lent p = record { lent = lent; judged = p.judged; published = p.published }
 

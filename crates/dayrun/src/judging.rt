@@ -55,7 +55,6 @@ fn report(out: &mut [u8], p: Progress, taken: usize, a: Answer) -> Progress
 // Judges the message at the front of what is left of the input, if it is there whole.
 pub fn judge_next(
     ledger: &mut [u8],
-    values: &mut [u8],
     tape: &mut [u8],
     input: &[u8],
     out: &mut [u8],
@@ -65,12 +64,11 @@ pub fn judge_next(
     requires longest_line_in_bounds { p.used + longest_line ≤ length out.old }
     requires published_le_judged { p.published ≤ p.judged }
     requires judged_lt_most_messages { p.judged < most_messages }
-    ensures value { result ≡ progress_after p (step_at (lent_of ledger.old values.old tape.old) input.now p) }
+    ensures value { result ≡ progress_after p (step_at (lent_of ledger.old tape.old) input.now p) }
     ensures out_after { out.new
-        ≡ splice out.old p.used
-        (step_at (lent_of ledger.old values.old tape.old) input.now p).line }
-    ensures tape_after { lent_of ledger.new values.new tape.new
-        ≡ (step_at (lent_of ledger.old values.old tape.old) input.now p).after.lent }
+        ≡ splice out.old p.used (step_at (lent_of ledger.old tape.old) input.now p).line }
+    ensures tape_after { lent_of ledger.new tape.new
+        ≡ (step_at (lent_of ledger.old tape.old) input.now p).after.lent }
     ensures steps { Steps (length input.now) p result }
     ensures judged_at_once { JudgedAtOnce }
 {
@@ -79,7 +77,7 @@ pub fn judge_next(
     match next_frame(rest, LONGEST_MESSAGE) {
         Frame::Message(n) => {
             let m = part_of(rest, LENGTH_SIZE, n);
-            let a = submit(ledger, values, tape, m, LONGEST_MESSAGE, LARGEST_CAPACITY);
+            let a = submit(ledger, tape, m, LONGEST_MESSAGE, LARGEST_CAPACITY);
             report(out, p, LENGTH_SIZE + n, a)
         }
         Frame::Overlong(n) => report(out, p, LENGTH_SIZE + n, refusal(LAYOUT_WRONG, 0)),

@@ -12,7 +12,6 @@ use input::INPUT_SIZE;
 use ledger::{Caps, HEADER_SIZE, LINE_SIZE, ROW_SIZE};
 use output::OUTPUT_SIZE;
 use repository::LARGEST_CAPACITY;
-use valuations::RECORD_SIZE;
 
 // The rows of the day's ledger, and the cap of every asset class.
 const ROWS: usize = 340;
@@ -40,9 +39,8 @@ fn new_ledger() -> [u8; LEDGER_SIZE]
 
 fn main() {
     let mut ledger = new_ledger();
-    let mut values = [0u8; ROWS * RECORD_SIZE];
     let mut tape = [0u8; LINE_SIZE];
     let mut input = [0u8; INPUT_SIZE];
     let mut out = [0u8; OUTPUT_SIZE];
-    run::run(&mut ledger, &mut values, &mut tape, &mut input, &mut out);
+    run::run(&mut ledger, &mut tape, &mut input, &mut out);
 }

@@ -53,7 +53,6 @@ fn finish(out: &mut [u8], p: Progress, kept: usize)
 // Judges the messages that are whole.
 fn judge_block(
     ledger: &mut [u8],
-    values: &mut [u8],
     tape: &mut [u8],
     input: &[u8],
     out: &mut [u8],
@@ -61,8 +60,8 @@ fn judge_block(
 ) -> Progress
     requires within { Within (length input.now) write_size start }
     requires longest_line_in_bounds { write_size + longest_line ≤ length out.old }
-    ensures judged_up_to { JudgedUpTo (lent_of ledger.old values.old tape.old) input.now out.old start
-        (lent_of ledger.new values.new tape.new) out.new result }
+    ensures judged_up_to { JudgedUpTo (lent_of ledger.old tape.old) input.now out.old start
+        (lent_of ledger.new tape.new) out.new result }
     ensures within_2 { Within (length input.now) write_size result }
     ensures leaves { Leaves input.now result }
     ensures nothing_lost { NothingLost }
@@ -70,7 +69,7 @@ fn judge_block(
     let mut p = start;
     while p.is_open && p.judged < MOST_MESSAGES {
         let before = p.at;
-        p = judge_next(ledger, values, tape, input, out, p);
+        p = judge_next(ledger, tape, input, out, p);
         if p.at == before {
             return p;
         }
@@ -103,8 +102,8 @@ fn before_read(out: &[u8], waits: bool, p: Progress) -> Progress
 }
 
 // Reads and judges block by block until the input ends.
-pub fn run(ledger: &mut [u8], values: &mut [u8], tape: &mut [u8], input: &mut [u8], out: &mut [u8])
-    requires tape_value { lent_of ledger.old values.old tape.old ≡ new_day.lent }
+pub fn run(ledger: &mut [u8], tape: &mut [u8], input: &mut [u8], out: &mut [u8])
+    requires tape_value { lent_of ledger.old tape.old ≡ new_day.lent }
     requires block_size_in_bounds { longest_frame + block_size ≤ length input.old }
     requires longest_line_in_bounds { write_size + longest_line ≤ length out.old }
 {
@@ -120,7 +119,7 @@ pub fn run(ledger: &mut [u8], values: &mut [u8], tape: &mut [u8], input: &mut [u
             return;
         }
         let n = kept + got;
-        p = judge_block(ledger, values, tape, part_of(input, 0, n), out, p);
+        p = judge_block(ledger, tape, part_of(input, 0, n), out, p);
         kept = keep_rest(input, p.at, n);
         p = from_front(p);
         reads -= 1;

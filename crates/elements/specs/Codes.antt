@@ -72,15 +72,3 @@ spread_notation = 27
 
 abbrev pub spread_currency : ℕ
 spread_currency = 28
-
-abbrev pub valuation_amount : ℕ
-valuation_amount = 30
-
-abbrev pub valuation_currency : ℕ
-valuation_currency = 31
-
-abbrev pub valuation_timestamp : ℕ
-valuation_timestamp = 32
-
-abbrev pub valuation_method : ℕ
-valuation_method = 33

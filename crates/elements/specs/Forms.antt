@@ -2,19 +2,19 @@
 use Rattle.std.specs.Prelude.{ℕ, Bool, true, false}
 use Rattle.octets.specs.Bytes.{Bytes}
 use Rattle.values.specs.Run.{is_uti, is_event, is_package_identifier}
-use Rattle.values.specs.Code.{is_truth, is_cleared, is_allocation, is_price_notation, is_spread_notation, is_asset_class, is_valuation_method}
+use Rattle.values.specs.Code.{is_truth, is_cleared, is_allocation, is_price_notation, is_spread_notation, is_asset_class}
 use Rattle.values.specs.Lei.{is_lei}
 use Rattle.iso.specs.Codes.{is_currency, is_location}
-use Rattle.numbers.specs.Numbers.{is_price, is_notional, is_signed_amount}
+use Rattle.numbers.specs.Numbers.{is_price, is_notional}
 use Rattle.dates.specs.Dates.{is_date, is_time}
 use Rattle.actions.specs.Actions.{action_of}
 use Rattle.actions.specs.declared.Checked.{Checked}
 use Rattle.actions.specs.declared.Checked.TheVariants.{Fault, Value}
 use Rattle.elements.specs.declared.table.Form.{Form}
-use Rattle.elements.specs.declared.table.Form.TheVariants.{Unknown, Uti, Action, Event, Time, Date, Cleared, Truth, Allocation, PackageIdentifier, Price, PriceNotation, SpreadNotation, Currency, Notional, SignedAmount, Location, Lei, AssetClass, ValuationMethod}
+use Rattle.elements.specs.declared.table.Form.TheVariants.{Unknown, Uti, Action, Event, Time, Date, Cleared, Truth, Allocation, PackageIdentifier, Price, PriceNotation, SpreadNotation, Currency, Notional, Location, Lei, AssetClass}
 use Rattle.elements.specs.Table.{element_of}
 
--- one of the eight
+-- one of the seven
 abbrev pub is_read : Checked → Bool
 is_read (Fault code) = false
 is_read (Value a) = true
@@ -36,11 +36,9 @@ fits PriceNotation v = is_price_notation v
 fits SpreadNotation v = is_spread_notation v
 fits Currency v = is_currency v
 fits Notional v = is_notional v
-fits SignedAmount v = is_signed_amount v
 fits Location v = is_location v
 fits Lei v = is_lei v
 fits AssetClass v = is_asset_class v
-fits ValuationMethod v = is_valuation_method v
 
 -- a value has the form of the element with a code
 unfoldable pub has_form : ℕ → Bytes → Bool

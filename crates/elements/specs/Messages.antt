@@ -1,12 +1,12 @@
 -- Specification, sections 2 and 3: which codes are known, and which elements a message of an action takes and needs (verdicts 5, 7 and 8).
-use Rattle.std.specs.Prelude.{ℕ, zero, suc, ◌≤◌, Bool, true, false, not, ◌≡◌, List, [], ◌∷◌, map}
+use Rattle.std.specs.Prelude.{ℕ, zero, suc, ◌≤◌, Bool, true, false, ◌≡◌, List, [], ◌∷◌, map}
 use Rattle.octets.specs.Bytes.{Bytes}
 use Rattle.octets.specs.Choice.{choose}
 use Rattle.message.specs.Layout.{layout_right}
 use Rattle.actions.specs.declared.Action.{Action}
-use Rattle.actions.specs.Actions.{is_full, is_valuation}
+use Rattle.actions.specs.Actions.{is_full}
 use Rattle.elements.specs.declared.table.Kinds.{Kinds}
-use Rattle.elements.specs.declared.table.Kinds.TheVariants.{None, All, FullOrShort, Full, Valuation}
+use Rattle.elements.specs.declared.table.Kinds.TheVariants.{None, All, Full}
 use Rattle.elements.specs.declared.table.Element.{Element}
 use Rattle.elements.specs.Table.{elements, element_of}
 
@@ -14,9 +14,7 @@ use Rattle.elements.specs.Table.{elements, element_of}
 abbrev pub is_taken : Kinds → Bool
 is_taken None = false
 is_taken All = true
-is_taken FullOrShort = true
 is_taken Full = true
-is_taken Valuation = true
 
 unfoldable pub known : List Bool
 known = map (λ (e : Element). is_taken e.taken) elements
@@ -37,9 +35,7 @@ has_layout longest m = layout_right longest most_entries known m
 abbrev pub is_among : Kinds → Action → Bool
 is_among None a = false
 is_among All a = true
-is_among FullOrShort a = not (is_valuation a)
 is_among Full a = is_full a
-is_among Valuation a = is_valuation a
 
 -- a message of the action may have the element
 unfoldable pub takes : Action → ℕ → Bool

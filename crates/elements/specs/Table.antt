@@ -1,9 +1,9 @@
 -- Specification, section 3: the table, a row for each code.
 use Rattle.std.specs.Prelude.{ℕ, ◌-◌, List, [], ◌∷◌, length, get_or}
 use Rattle.elements.specs.declared.table.Form.{Form}
-use Rattle.elements.specs.declared.table.Form.TheVariants.{Unknown, Uti, Action, Event, Time, Date, Cleared, Truth, Allocation, PackageIdentifier, Price, PriceNotation, SpreadNotation, Currency, Notional, SignedAmount, Location, Lei, AssetClass, ValuationMethod}
+use Rattle.elements.specs.declared.table.Form.TheVariants.{Unknown, Uti, Action, Event, Time, Date, Cleared, Truth, Allocation, PackageIdentifier, Price, PriceNotation, SpreadNotation, Currency, Notional, Location, Lei, AssetClass}
 use Rattle.elements.specs.declared.table.Kinds.{Kinds}
-use Rattle.elements.specs.declared.table.Kinds.TheVariants.{None, All, FullOrShort, Full, Valuation}
+use Rattle.elements.specs.declared.table.Kinds.TheVariants.{None, All, Full}
 use Rattle.elements.specs.declared.table.Condition.{Condition}
 use Rattle.elements.specs.declared.table.Condition.TheVariants.{Never, Always, ClearedIsN, Package, NoSpread, HasPrice, MonetaryPrice, HasSpread, MonetarySpread}
 use Rattle.elements.specs.declared.table.Public.{Public}
@@ -23,7 +23,7 @@ elements =
     no_element  -- 0 is no code
     ∷ row Uti All All Never Never Hidden  -- 1 UTI
     ∷ row Action All All Never Always Shown  -- 2 action type
-    ∷ row Event FullOrShort None Never Always Shown  -- 3 event type, needed by pair
+    ∷ row Event All None Never Always Shown  -- 3 event type, needed by pair
     ∷ row Time All All Never Always Shown  -- 4 event timestamp
     ∷ row Time All All Never Never Hidden  -- 5 reporting timestamp
     ∷ row Time Full Full Never Always Shown  -- 6 execution timestamp
@@ -49,11 +49,6 @@ elements =
     ∷ row Price Full None Never Package Shown  -- 26 package spread
     ∷ row SpreadNotation Full None HasSpread HasSpread Shown  -- 27 spread notation
     ∷ row Currency Full None MonetarySpread MonetarySpread Shown  -- 28 spread currency
-    ∷ no_element  -- 29 is no code
-    ∷ row SignedAmount Valuation Valuation Never Never Hidden  -- 30 valuation amount
-    ∷ row Currency Valuation Valuation Never Never Hidden  -- 31 valuation currency
-    ∷ row Time Valuation Valuation Never Never Hidden  -- 32 valuation timestamp
-    ∷ row ValuationMethod Valuation Valuation Never Never Hidden  -- 33 valuation method
     ∷ []
 
 unfoldable pub element_of : ℕ → Element

@@ -6,7 +6,7 @@ ghost use Rattle.actions.specs.Actions.{action_of};
 use crate::table::{Form, element_of};
 use actions::Checked;
 
-// Whether the value is one of the eight actions.
+// Whether the value is one of the seven actions.
 fn is_action(v: &[u8]) -> bool
     ensures { result ≡ is_read (action_of v.now) }
 {
@@ -36,11 +36,9 @@ fn fits_form(form: Form, v: &[u8]) -> bool
         Form::SpreadNotation => values::is_spread_notation(v),
         Form::Currency => iso::is_currency(v),
         Form::Notional => numbers::is_notional(v),
-        Form::SignedAmount => numbers::is_signed_amount(v),
         Form::Location => iso::is_location(v),
         Form::Lei => values::is_lei(v),
         Form::AssetClass => values::is_asset_class(v),
-        Form::ValuationMethod => values::is_valuation_method(v),
     }
 }
 

@@ -56,11 +56,3 @@ pub const PACKAGE_SPREAD: u8 = 26;
 pub const SPREAD_NOTATION: u8 = 27;
 
 pub const SPREAD_CURRENCY: u8 = 28;
-
-pub const VALUATION_AMOUNT: u8 = 30;
-
-pub const VALUATION_CURRENCY: u8 = 31;
-
-pub const VALUATION_TIMESTAMP: u8 = 32;
-
-pub const VALUATION_METHOD: u8 = 33;

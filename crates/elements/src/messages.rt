@@ -2,9 +2,7 @@
 ghost use Rattle.std.specs.Prelude.{◌≡◌};
 ghost use Rattle.elements.specs.Messages.{has_layout, is_among, takes, needs, TakenUpTo};
 
-use crate::table::{
-    Kinds, LAST_CODE, LAST_FULL, LAST_SHORT, LAST_VALUATION, MOST_ENTRIES, NO_CODE, element_of,
-};
+use crate::table::{Kinds, LAST_CODE, LAST_FULL, LAST_SHORT, MOST_ENTRIES, element_of};
 use actions::Action;
 use message::layout_right;
 
@@ -14,7 +12,6 @@ pub fn has_layout(m: &[u8], longest: usize) -> bool
 {
     let mut known = [true; LAST_CODE as usize + 1];
     known[0] = false;
-    known[NO_CODE as usize] = false;
     layout_right(m, longest, MOST_ENTRIES, &known)
 }
 
@@ -25,9 +22,7 @@ fn is_among(kinds: Kinds, a: Action) -> bool
     match kinds {
         Kinds::None => false,
         Kinds::All => true,
-        Kinds::FullOrShort => !actions::is_valuation(a),
         Kinds::Full => actions::is_full(a),
-        Kinds::Valuation => actions::is_valuation(a),
     }
 }
 
@@ -53,9 +48,6 @@ pub fn taken_up_to(a: Action) -> u8
 {
     if actions::is_full(a) {
         return LAST_FULL;
-    }
-    if actions::is_valuation(a) {
-        return LAST_VALUATION;
     }
     LAST_SHORT
 }

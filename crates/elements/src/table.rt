@@ -24,11 +24,9 @@ pub enum Form {
     SpreadNotation,
     Currency,
     Notional,
-    SignedAmount,
     Location,
     Lei,
     AssetClass,
-    ValuationMethod,
 }
 
 // Kinds of messages.
@@ -36,9 +34,7 @@ pub enum Form {
 pub enum Kinds {
     None,
     All,
-    FullOrShort,
     Full,
-    Valuation,
 }
 
 #[derive(Drop)]
@@ -74,20 +70,15 @@ pub struct Element {
 }
 
 // The last code of the table.
-pub const LAST_CODE: u8 = 33;
+pub const LAST_CODE: u8 = 28;
 
-// A code below it that no element has.
-pub const NO_CODE: u8 = 29;
-
-// Full messages take each code up to the first, short ones up to the second, valuations up to the third.
-pub const LAST_FULL: u8 = 28;
+// Full messages take each code up to the first, other ones up to the second.
+pub const LAST_FULL: u8 = LAST_CODE;
 
 pub const LAST_SHORT: u8 = 5;
 
-pub const LAST_VALUATION: u8 = 2;
-
 // How many codes the table has.
-pub const MOST_ENTRIES: usize = LAST_CODE as usize - 1;
+pub const MOST_ENTRIES: usize = LAST_CODE as usize;
 
 // A row, in the order of the columns.
 fn row(
@@ -117,7 +108,7 @@ pub fn element_of(code: u8) -> Element
     match code {
         1 => row(Uti, All, All, Never, Never, Hidden), // UTI
         2 => row(Action, All, All, Never, Always, Shown), // action type
-        3 => row(Event, FullOrShort, None, Never, Always, Shown), // event type, needed by pair
+        3 => row(Event, All, None, Never, Always, Shown), // event type, needed by pair
         4 => row(Time, All, All, Never, Always, Shown), // event timestamp
         5 => row(Time, All, All, Never, Never, Hidden), // reporting timestamp
         6 => row(Time, Full, Full, Never, Always, Shown), // execution timestamp
@@ -143,11 +134,6 @@ pub fn element_of(code: u8) -> Element
         26 => row(Price, Full, None, Never, Package, Shown), // package spread
         27 => row(SpreadNotation, Full, None, HasSpread, HasSpread, Shown), // spread notation
         28 => row(Currency, Full, None, MonetarySpread, MonetarySpread, Shown), // spread currency
-        29 => row(Unknown, None, None, Never, Never, Hidden), // no element
-        30 => row(SignedAmount, Valuation, Valuation, Never, Never, Hidden), // valuation amount
-        31 => row(Currency, Valuation, Valuation, Never, Never, Hidden), // valuation currency
-        32 => row(Time, Valuation, Valuation, Never, Never, Hidden), // valuation timestamp
-        33 => row(ValuationMethod, Valuation, Valuation, Never, Never, Hidden), // valuation method
         _ => row(Unknown, None, None, Never, Never, Hidden),
     }
 }

@@ -7,7 +7,7 @@ use Rattle.values.specs.Run.{run_of}
 use Rattle.values.specs.declared.run.Class.TheVariants.{Capital}
 use Rattle.iso.specs.Lists.{iso4217, iso3166}
 
--- codes 19, 21, 28 and 31
+-- codes 19, 21 and 28
 unfoldable pub is_currency : Bytes → Bool
 is_currency v = one_of iso4217 v
 

@@ -7,7 +7,7 @@ ghost use Rattle.iso.specs.Codes.{is_currency, is_location, CurrencyCapitals, Lo
 use octets::byte_at;
 use values::{CURRENCY_SIZE, LOCATION_SIZE};
 
-// Whether the value is a currency (codes 19, 21, 28 and 31).
+// Whether the value is a currency (codes 19, 21 and 28).
 pub fn is_currency(v: &[u8]) -> bool
     ensures value { result ≡ is_currency v.now }
     ensures currency_capitals { CurrencyCapitals }

@@ -87,9 +87,9 @@ header_checked largest l r e = subst (HeaderChecked largest l) e (by (header_rig
     by true g = (g, refl)
     by false g = g
 
--- the rows in use lie within the capacity, and this within the ledger
-pub used_fit : (largest : ℕ) (l : Bytes) (h : Header) → header_right largest l ≡ true → h ≡ header_of l → (h.rows ≤ h.capacity) × (row_start h.capacity ≤ length l)
+-- the rows in use lie within the ledger
+pub used_fit : (largest : ℕ) (l : Bytes) (h : Header) → header_right largest l ≡ true → h ≡ header_of l → row_start h.rows ≤ length l
 unfolding header_of
 used_fit largest l h e g =
     let right : RightHeader largest l = right_header largest l e in
-    rw g (right.rows, rows_fit largest l right)
+    rw g (omega (arith, rows_fit largest l right, right.rows))

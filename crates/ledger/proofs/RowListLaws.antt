@@ -201,16 +201,3 @@ one_place p f (suc d) k (suc i) (suc j) one h b e g =
     fewer : (b : Bool) → choose b (suc (count p (list_from f (suc k) d))) (count p (list_from f (suc k) d)) ≤ 1 → count p (list_from f (suc k) d) ≤ 1
     fewer true o = omega arith
     fewer false o = o
-
--- a row that passes is counted
-pub some_count : (p : Bytes → Bool) (f : ℕ → Bytes) (d k i : ℕ) → i < d → p (f (k + i)) ≡ true → 1 ≤ count p (list_from f k d)
-unfolding list_from count
-some_count p f zero k i h e = omega arith
-some_count p f (suc d) k zero h e = rw (sym (ap (λ (j : ℕ). p (f j)) (add-zero k)) ∙ e) (omega arith)
-some_count p f (suc d) k (suc i) h e =
-    let at : k + suc i ≡ suc k + i = omega arith in
-    by (p (f k)) (some_count p f d (suc k) i (omega arith) (sym (ap (λ (j : ℕ). p (f j)) at) ∙ e))
-  where
-    by : (b : Bool) → 1 ≤ count p (list_from f (suc k) d) → 1 ≤ choose b (suc (count p (list_from f (suc k) d))) (count p (list_from f (suc k) d))
-    by true m = omega arith
-    by false m = m

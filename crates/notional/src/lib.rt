@@ -6,7 +6,7 @@ ghost use Rattle.notional.specs.Rounding.{step, least_shown, last_step, rounded}
 ghost use Rattle.notional.specs.Masking.{over, shown, largest_cap, is_cap};
 ghost use Rattle.notional.specs.Laws.{MaskingLaws};
 
-use numbers::{AMOUNT_DECIMALS, decimals_of, whole_of};
+use numbers::{NOTIONAL_DECIMALS, decimals_of, whole_of};
 use octets::byte_at;
 
 // Units of 10^-5 in half a unit of the notional currency.
@@ -59,7 +59,7 @@ fn fraction_of(v: &[u8]) -> u64
     let d = decimals_of(v);
     let mut n: u64 = 0;
     let mut k: usize = 0;
-    while k < AMOUNT_DECIMALS {
+    while k < NOTIONAL_DECIMALS {
         n = n * 10 + digit_of(byte_at(d, k));
         k += 1;
     }

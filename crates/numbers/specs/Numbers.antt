@@ -1,4 +1,4 @@
--- Specification, clauses 4.7 to 4.9: numbers, and the forms of codes 17, 20, 26 and 30.
+-- Specification, clauses 4.7 to 4.9: numbers, and the forms of codes 17, 20 and 26.
 use Rattle.std.specs.Prelude.{ℕ, ◌+◌, Bool, true, length, get_or, take, drop, ltb, leb, eqb}
 use Prim.Native.Char.{code}
 use Rattle.octets.specs.Bytes.{Bytes}
@@ -14,12 +14,12 @@ price_digits = 18
 abbrev pub price_decimals : ℕ
 price_decimals = 13
 
--- codes 20 and 30: Num(25,5)
-abbrev pub amount_digits : ℕ
-amount_digits = 25
+-- code 20: Num(25,5)
+abbrev pub notionalDigits : ℕ
+notionalDigits = 25
 
-abbrev pub amount_decimals : ℕ
-amount_decimals = 5
+abbrev pub notionalDecimals : ℕ
+notionalDecimals = 5
 
 -- the place of the first point, or the length where there is none
 unfoldable pub point_in : Bytes → ℕ
@@ -41,7 +41,7 @@ is_number a b v =
     both (run_of 1 a Digit (whole_of v))
     (choose (has_point v) (both (run_of 1 b Digit (decimals_of v)) (leb (length (whole_of v) + length (decimals_of v)) a)) true)
 
--- codes 17, 26 and 30 may open with a minus
+-- codes 17 and 26 may open with a minus
 abbrev pub has_minus : Bytes → Bool
 has_minus v = eqb (get_or v 0 0) (code "-")
 
@@ -54,8 +54,4 @@ is_price v = is_number price_digits price_decimals (unsigned_of v)
 
 -- code 20: Num(25,5), no minus
 abbrev pub is_notional : Bytes → Bool
-is_notional v = is_number amount_digits amount_decimals v
-
--- code 30: Num(25,5), may be negative
-unfoldable pub is_signed_amount : Bytes → Bool
-is_signed_amount v = is_number amount_digits amount_decimals (unsigned_of v)
+is_notional v = is_number notionalDigits notionalDecimals v

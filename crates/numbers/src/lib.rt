@@ -1,6 +1,6 @@
-// Decimal numbers (specification, clauses 4.7 to 4.9): the forms of codes 17, 20, 26 and 30.
+// Decimal numbers (specification, clauses 4.7 to 4.9): the forms of codes 17, 20 and 26.
 ghost use Rattle.std.specs.Prelude.{◌≡◌, ◌≤◌, length};
-ghost use Rattle.numbers.specs.Numbers.{point_in, whole_of, decimals_of, is_number, unsigned_of, is_price, is_notional, is_signed_amount};
+ghost use Rattle.numbers.specs.Numbers.{point_in, whole_of, decimals_of, is_number, unsigned_of, is_price, is_notional};
 
 use values::{Class, run_of};
 
@@ -8,9 +8,9 @@ const PRICE_DIGITS: usize = 18;
 
 const PRICE_DECIMALS: usize = 13;
 
-pub const AMOUNT_DIGITS: usize = 25;
+const NOTIONAL_DIGITS: usize = 25;
 
-pub const AMOUNT_DECIMALS: usize = 5;
+pub const NOTIONAL_DECIMALS: usize = 5;
 
 // The place of the first point, or the length where there is none.
 fn point_in(v: &[u8]) -> usize
@@ -86,11 +86,5 @@ pub fn is_price(v: &[u8]) -> bool
 pub fn is_notional(v: &[u8]) -> bool
     ensures { result ≡ is_notional v.now }
 {
-    is_number(AMOUNT_DIGITS, AMOUNT_DECIMALS, v)
-}
-
-pub fn is_signed_amount(v: &[u8]) -> bool
-    ensures { result ≡ is_signed_amount v.now }
-{
-    is_number(AMOUNT_DIGITS, AMOUNT_DECIMALS, unsigned_of(v))
+    is_number(NOTIONAL_DIGITS, NOTIONAL_DECIMALS, v)
 }

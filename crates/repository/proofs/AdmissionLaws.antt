@@ -1,5 +1,5 @@
 -- The decision beside the definition of a submission, and what the writes of an admission may rely on. Assumes nothing.
-use Prim.Native.Nat.{ℕ, ◌+◌, ◌^◌, ◌<◌, ◌≤◌}
+use Prim.Native.Nat.{ℕ, ◌^◌, ◌<◌, ◌≤◌}
 use mathlib.Core.Bool.{Bool, true, false}
 use mathlib.Core.Path.{◌≡◌, refl, sym, ap, ap₂, ◌∙◌, subst}
 use mathlib.Core.List.{[], ◌∷◌}
@@ -17,8 +17,6 @@ use Rattle.actions.specs.declared.Checked.TheVariants as checked
 use Rattle.actions.specs.Actions.{is_full, is_new, next_status}
 use Rattle.notional.specs.Masking.{largest_cap}
 use Rattle.terms.specs.Terms.{terms_of}
-use Rattle.valuations.specs.Layout.{record_start}
-use Rattle.valuations.specs.Records.{values_after}
 use Rattle.rules.specs.Findings.{first_broken, before_rule}
 use Rattle.rules.specs.Rules.{rules_for}
 use Rattle.rules.proofs.FindingLaws.{broken_then}
@@ -31,8 +29,8 @@ use Rattle.ledger.proofs.RightHeader.{rows_fit, capacity_most}
 use Rattle.submission.specs.Opening.{Limits}
 use Rattle.submission.specs.Verdicts.{identifiers_spent}
 use Rattle.submission.specs.Lent.{Lent}
-use Rattle.submission.specs.Submission.{swap_of, action_in, line_due, line_due_in, finds_spent, identifier_rule, submission_rules, admitting_rules, verdict_on, cap_on, masked_terms, terms_for, place_for, row_for, ledger_for, line_for, values_for, accepted, refused, concluded, submitted}
-use Rattle.submission.proofs.Acceptance.{Admitted, as_admitted, eighteen_last, left_to_18, HasPlace, tape_test, has_place, record_room}
+use Rattle.submission.specs.Submission.{swap_of, action_in, line_due, line_due_in, finds_spent, identifier_rule, submission_rules, admitting_rules, verdict_on, cap_on, masked_terms, terms_for, place_for, row_for, ledger_for, line_for, accepted, refused, concluded, submitted}
+use Rattle.submission.proofs.Acceptance.{Admitted, as_admitted, eighteen_last, left_to_18, HasPlace, tape_test, has_place}
 use Rattle.submission.proofs.Lookup.{low, lowers}
 use Rattle.repository.specs.declared.decide.Admission.{Admission}
 use Rattle.repository.specs.declared.decide.Decision.{Decision}
@@ -123,7 +121,6 @@ writable_admission {limits} {lent} {m} c small =
     let place : place_for c.action lent.ledger m ≡ place_of lent.ledger (swap_of m) = one_place f (is_new c.action) refl in
     record {
       admission = refl;
-      values = subst (λ k. record_start (k + 1) ≤ length lent.buffers.values) place (record_room c);
       tape = ltb-false _ _ (tape_test c);
       uti = f.uti;
       place = place;
@@ -173,9 +170,6 @@ module _ {lent : Lent} {m : Bytes} {s : Admission} (f : Writable lent m s) where
   line_is =
       let previous : s.previous ≡ swap_identifier l (swap_of m) = ap (λ (x : Admission). x.previous) f.admission in
       rw (next_is, previous)
-
-  pub values_are : values_after s.action s.place m lent.buffers.values ≡ values_for s.action l lent.buffers.values m
-  values_are = ap (λ k. values_after s.action k m lent.buffers.values) (sym f.place)
 
   rows_are : s.rows ≡ rows_in_use l
   unfolding header_of

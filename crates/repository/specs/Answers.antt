@@ -4,7 +4,6 @@ use Rattle.ledger.specs.declared.header.Caps.{Caps}
 use Rattle.submission.specs.Opening.{Limits}
 use Rattle.submission.specs.Submission.{Submitted}
 use Rattle.submission.specs.Status.{Asked}
-use Rattle.submission.specs.Valuation.{Valued}
 use Rattle.repository.specs.declared.answer.Answer.{Answer}
 
 -- limits are parameters of the inner functions
@@ -30,11 +29,7 @@ submission_answer s = answer_with s.verdict s.element 0 s.identifier
 abbrev pub question_answer : Asked → Answer
 question_answer a = answer_with a.verdict a.element a.status a.identifier
 
--- the valuation question answers verdict and element, and 1 in the place of the status where a valuation is held
-abbrev pub valuation_answer : Valued → Answer
-valuation_answer a = answer_with a.verdict a.element a.state 0
-
--- ---- the number: bits 0 to 7 the verdict, 8 to 15 the element, 16 to 23 the status or whether a valuation is held, 24 to 63 the identifier
+-- ---- the number: bits 0 to 7 the verdict, 8 to 15 the element, 16 to 23 the status, 24 to 63 the identifier
 
 -- what one byte holds
 abbrev pub byte : ℕ

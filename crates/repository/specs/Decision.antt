@@ -8,7 +8,6 @@ use Rattle.actions.specs.declared.Checked.TheVariants as checked
 use Rattle.actions.specs.Actions.{is_full, next_status}
 use Rattle.actions.specs.Statuses.{unknown, live, ported}
 use Rattle.notional.specs.Masking.{largest_cap}
-use Rattle.valuations.specs.Layout.{record_start}
 use Rattle.rules.specs.Findings.{first_broken, from_rule}
 use Rattle.ledger.specs.Layout.{u32, uti_size, row_start, line_size, identifier_limit}
 use Rattle.ledger.specs.declared.header.Header.{Header}
@@ -63,13 +62,13 @@ decision limits lent m = decided_on (first_broken (admitting_rules limits (actio
 unfoldable pub decision_from : ℕ → Limits → Lent → Bytes → Decision
 decision_from n limits lent m = decided_on (first_broken (from_rule n (admitting_rules limits (action_in m) lent m))) (action_in m) lent.ledger m
 
--- the same among rules 14 to 17 and 21, by what is known of the swap
-unfoldable pub decided_from : ℕ → Header → Swap → Bytes → Bytes → Bytes → Admission → Decision
-decided_from n h swap time held m s = decided (first_broken (from_rule n (swap_rules s.action h swap time held m))) s
+-- the same among rules 14 to 17, by what is known of the swap
+unfoldable pub decided_from : ℕ → Header → Swap → Bytes → Bytes → Admission → Decision
+decided_from n h swap time m s = decided (first_broken (from_rule n (swap_rules s.action h swap time m))) s
 
--- all of them, with what a ledger and a valuation table have
-unfoldable pub decision_in : Action → Bytes → Bytes → Bytes → Decision
-decision_in a l values m = decided (first_broken (rules_in a l values m)) (admission_in a l m)
+-- all of them, with what a ledger has
+unfoldable pub decision_in : Action → Bytes → Bytes → Decision
+decision_in a l m = decided (first_broken (rules_in a l m)) (admission_in a l m)
 
 -- what a decision answers by itself: a refusal its verdict and element, an admission nothing yet
 abbrev pub decision_answer : Decision → Answer
@@ -87,19 +86,14 @@ submitted_by (Value s) lent m = finished s.action lent m
 
 -- ---- what was read on the way
 
--- the header's numbers; the rows in use lie within the capacity, and this within the ledger
+-- the header's numbers; the rows in use lie within the ledger
 abbrev pub HeaderRead : Header → Bytes → Type 0
-HeaderRead header l = (header ≡ header_of l) × (header.rows ≤ header.capacity) × (row_start header.capacity ≤ length l)
-
--- the valuation table has a record for each row of the capacity
-abbrev pub ValuesRead : Header → Bytes → Type 0
-ValuesRead header values = length values ≡ record_start header.capacity
+HeaderRead header l = (header ≡ header_of l) × (row_start header.rows ≤ length l)
 
 -- ---- what the writes of an admission need, so that they cannot fail
 
 pub record Writable (lent : Lent) (m : Bytes) (s : Admission) : Type 0 where
   pub admission : s ≡ admission_in s.action lent.ledger m
-  pub values : record_start (s.place + 1) ≤ length lent.buffers.values
   pub tape : line_size ≤ length lent.buffers.tape
   pub uti : length (swap_of m) ≤ uti_size
   -- a new swap's place is the one behind the rows in use

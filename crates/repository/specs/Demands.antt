@@ -1,20 +1,18 @@
 -- The demands, as the contracts of the exported operations cite them: each is a theorem of `submission`. An answer in one number has its own law.
 use Rattle.submission.specs.Opening.{document_limits}
-use Rattle.submission.specs.Demand1.{SubmissionAnswers, OpeningAnswers, QuestionAnswers, TotalsAnswers, ValuationAnswers}
-use Rattle.submission.specs.Demand2.{VerdictExactly, CheckingOrder, AcceptedExactly, LineDueExactly, QuietModificationUnder, QuietModification, WritesUnder, AcceptanceWrites, ValuationWritesUnder, ValuationWrites, EachOpeningExactly, OpeningWrites, OpeningPassesUnder, OpeningPasses, EachQuestionExactly, EachTotalsExactly, EachValuationExactly}
+use Rattle.submission.specs.Demand1.{SubmissionAnswers, OpeningAnswers, QuestionAnswers, TotalsAnswers}
+use Rattle.submission.specs.Demand2.{VerdictExactly, CheckingOrder, AcceptedExactly, LineDueExactly, QuietModificationUnder, QuietModification, WritesUnder, AcceptanceWrites, EachOpeningExactly, OpeningWrites, OpeningPassesUnder, OpeningPasses, EachQuestionExactly, EachTotalsExactly}
 use Rattle.submission.specs.Demand3.{SameTapesUnder, SameTapes, MaskedTermsPublic}
 use Rattle.submission.specs.Published.{TapePublishedUnder, TapePublished}
 use Rattle.submission.specs.Counting.{IdentifierWithLine, IdentifierCountsUnder, IdentifierCounts, QuietCall}
 use Rattle.submission.specs.SinceOpening.{TotalsCountUnder, TotalsCount, TotalsSumUnder, TotalsSum, RowsDifferUnder, RowsDiffer}
-use Rattle.submission.specs.Hidden.{ValuationsHiddenUnder, ValuationsHidden}
-use Rattle.submission.specs.Held.{ValuationShownUnder, ValuationShown, ValuationHeldUnder, ValuationHeld}
 use Rattle.repository.specs.Answers.{NumberCarries}
 
 -- opening: demands 1 and 2, and that a submission finds its header right, also at the specification's limits
 abbrev pub OpeningDemands : Type 0
 OpeningDemands = OpeningAnswers × EachOpeningExactly × OpeningWrites × OpeningPasses × OpeningPassesUnder document_limits
 
--- submitting: demands 1, 2 and 3, that valuations stay hidden, and what these rest on
+-- submitting: demands 1, 2 and 3, and what they rest on
 pub record SubmissionDemands : Type 0 where
   pub answers : SubmissionAnswers
   pub exactly : VerdictExactly
@@ -23,9 +21,7 @@ pub record SubmissionDemands : Type 0 where
   pub due : LineDueExactly
   pub modification : QuietModification
   pub writes : AcceptanceWrites
-  pub valuation : ValuationWrites
   pub tapes : SameTapes
-  pub hidden : ValuationsHidden
   pub published : TapePublished
   pub line : IdentifierWithLine
   pub counts : IdentifierCounts
@@ -36,9 +32,7 @@ pub record SubmissionDemands : Type 0 where
   -- those that ask something of the limits, at the specification's
   pub modification_here : QuietModificationUnder document_limits
   pub writes_here : WritesUnder document_limits
-  pub valuation_here : ValuationWritesUnder document_limits
   pub tapes_here : SameTapesUnder document_limits
-  pub hidden_here : ValuationsHiddenUnder document_limits
   pub published_here : TapePublishedUnder document_limits
   pub counts_here : IdentifierCountsUnder document_limits
 
@@ -57,14 +51,3 @@ pub record TotalsDemands : Type 0 where
   pub count_here : TotalsCountUnder document_limits
   pub sum_here : TotalsSumUnder document_limits
   pub rows_here : RowsDifferUnder document_limits
-
--- the valuation question: demands 1 and 2, and that it answers a valuation as sent until it is replaced
-pub record ValuationDemands : Type 0 where
-  pub answers : ValuationAnswers
-  pub exactly : EachValuationExactly
-  pub shown : ValuationShown
-  pub held : ValuationHeld
-  pub number : NumberCarries
-  -- the same at the specification's limits
-  pub shown_here : ValuationShownUnder document_limits
-  pub held_here : ValuationHeldUnder document_limits

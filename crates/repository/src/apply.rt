@@ -12,7 +12,6 @@ use actions::Action;
 use elements::UTI;
 use ledger::{store_row, update_header, write_line};
 use message::element;
-use valuations::update_values;
 
 // Writes the line where one is due.
 fn publish(
@@ -32,23 +31,14 @@ fn publish(
     }
 }
 
-// Writes the line, the row, the header's numbers and the valuation record.
-pub fn apply(
-    l: &mut [u8],
-    values: &mut [u8],
-    tape: &mut [u8],
-    m: &[u8],
-    s: Admission,
-    due: bool,
-    terms: &[u8],
-)
-    requires { Writable (lent_of l.old values.old tape.old) m.now s
+// Writes the line, the row and the header's numbers.
+pub fn apply(l: &mut [u8], tape: &mut [u8], m: &[u8], s: Admission, due: bool, terms: &[u8])
+    requires { Writable (lent_of l.old tape.old) m.now s
         × (due ≡ line_due_in s.action l.old m.now) × (terms.now ≡ terms_for s.action l.old m.now) × (length terms.now ≡ terms_size) }
-    ensures { lent_of l.new values.new tape.new ≡ lent_for s.action (lent_of l.old values.old tape.old) m.now }
+    ensures { lent_of l.new tape.new ≡ lent_for s.action (lent_of l.old tape.old) m.now }
 {
     let a = s.action;
     publish(tape, a, due, s.next, s.previous, m, terms);
     store_row(l, s.place, a, due, s.status, element(m, UTI), s.next, terms);
     update_header(l, a, due, s.before, s.status, s.rows, s.next);
-    update_values(values, a, s.place, m);
 }

@@ -66,10 +66,10 @@ fn accepted_with(due: bool, next: u64) -> Answer
 }
 
 // 18, then what an accepted message writes.
-pub fn conclude(l: &mut [u8], values: &mut [u8], tape: &mut [u8], m: &[u8], s: Admission) -> Answer
-    requires { Writable (lent_of l.old values.old tape.old) m.now s }
-    ensures value { result ≡ submission_answer (finished s.action (lent_of l.old values.old tape.old) m.now) }
-    ensures tape_after { lent_of l.new values.new tape.new ≡ (finished s.action (lent_of l.old values.old tape.old) m.now).lent }
+pub fn conclude(l: &mut [u8], tape: &mut [u8], m: &[u8], s: Admission) -> Answer
+    requires { Writable (lent_of l.old tape.old) m.now s }
+    ensures value { result ≡ submission_answer (finished s.action (lent_of l.old tape.old) m.now) }
+    ensures tape_after { lent_of l.new tape.new ≡ (finished s.action (lent_of l.old tape.old) m.now).lent }
 {
     let a = s.action;
     let mut terms = [b' '; SIZE];
@@ -78,6 +78,6 @@ pub fn conclude(l: &mut [u8], values: &mut [u8], tape: &mut [u8], m: &[u8], s: A
     if finds_spent(due, s.next) {
         return refusal(IDENTIFIERS_SPENT, 0);
     }
-    apply(l, values, tape, m, s, due, &terms);
+    apply(l, tape, m, s, due, &terms);
     accepted_with(due, s.next)
 }

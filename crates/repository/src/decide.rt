@@ -1,33 +1,25 @@
 // The decision on a message: the rules of a submission in checking order, up to 17. Reads only.
-ghost use Rattle.std.specs.Prelude.{ℕ, ◌≡◌, ◌+◌, ◌^◌, ◌<◌, ◌≤◌, eqb, length, true, []};
+ghost use Rattle.std.specs.Prelude.{ℕ, ◌≡◌};
 ghost use Rattle.octets.specs.Bytes.{Bytes};
 ghost use Rattle.octets.specs.Choice.{choose};
-ghost use Rattle.actions.specs.Actions.{is_full, is_valuation};
+ghost use Rattle.actions.specs.Actions.{is_full};
 ghost use Rattle.ledger.specs.declared.search.Swap.{Swap as SwapValues};
-ghost use Rattle.valuations.specs.Layout.{record_start};
-ghost use Rattle.valuations.specs.Records.{record_at, held_time};
 ghost use Rattle.rules.specs.Verdicts.{layout_wrong};
-ghost use Rattle.submission.specs.Verdicts.{values_wrong, tape_short, row_wrong, not_admitted, valuation_earlier, other_time, ledger_full};
-ghost use Rattle.submission.specs.Lent.{lent_of};
-ghost use Rattle.submission.specs.Submission.{cap_on, has_wrong_row, is_earlier, has_other_time, finds_full};
+ghost use Rattle.submission.specs.Verdicts.{tape_short, row_wrong, not_admitted, other_time, ledger_full};
+ghost use Rattle.submission.specs.Lent.{Buffers, lent_of};
+ghost use Rattle.submission.specs.Submission.{cap_on, has_wrong_row, has_other_time, finds_full};
 ghost use Rattle.repository.specs.Answers.{limits_of};
-ghost use Rattle.repository.specs.Decision.{admission_for, decision, decision_from, decided_from, decision_in, HeaderRead, ValuesRead};
+ghost use Rattle.repository.specs.Decision.{admission_for, decision, decision_from, decided_from, decision_in, HeaderRead};
 
-use crate::verdicts::{
-    LEDGER_FULL, LEDGER_WRONG, NOT_ADMITTED, OTHER_TIME, ROW_WRONG, TAPE_SHORT, VALUATION_EARLIER,
-    VALUES_WRONG,
-};
-use actions::{
-    Action, LIVE, NO_STEP, PORTED, is_full, is_new, is_valuation, repeats_time, status_after,
-};
-use elements::{ASSET_CLASS, EXECUTION_TIMESTAMP, UTI, VALUATION_TIMESTAMP};
+use crate::verdicts::{LEDGER_FULL, LEDGER_WRONG, NOT_ADMITTED, OTHER_TIME, ROW_WRONG, TAPE_SHORT};
+use actions::{Action, LIVE, NO_STEP, PORTED, is_full, is_new, repeats_time, status_after};
+use elements::{ASSET_CLASS, EXECUTION_TIMESTAMP, UTI};
 use ledger::{
     Caps, Header, HeaderCheck, LINE_SIZE, Swap, cap_for, find_swap, read_header, time_of, total_of,
 };
 use message::element;
 use octets::same;
 use rules::{Judged, judge};
-use valuations::{RECORD_SIZE, held_time};
 
 // What 18 and the writes use of a message that every other rule admits: its action, the place of the swap's row, the swap's status before and after
 // it, its last identifier, the header's numbers, and the cap that applies.
@@ -60,25 +52,6 @@ fn cap_of(caps: Caps, a: Action, m: &[u8]) -> u64
     cap_for(caps, element(m, ASSET_CLASS))
 }
 
-// Whether the valuation table has a record for each row of the ledger's capacity; otherwise 20 is broken.
-pub fn has_values(values: &[u8], header: Header) -> bool
-    requires { record_start header.capacity < 2 ^ 64 }
-    ensures { result ≡ eqb (length values.now) (record_start header.capacity) }
-{
-    values.len() as u64 == header.capacity * (RECORD_SIZE as u64)
-}
-
-// The timestamp that a valuation must not be before: the held one of its swap. Other messages have none.
-fn held_of<'a>(values: &'a [u8], a: Action, known: bool, place: usize) -> &'a [u8]
-    requires { known ≡ true → record_start (place + 1) ≤ length values.now }
-    ensures { result.now ≡ choose (is_valuation a) (choose known (held_time (record_at values.now place)) []) [] }
-{
-    if !is_valuation(a) {
-        return &values[..0];
-    }
-    held_time(values, known, place)
-}
-
 // Whether the swap has a row, and that row is wrong (14).
 pub fn has_wrong_row(header: Header, swap: Swap) -> bool
     ensures { result ≡ has_wrong_row header swap }
@@ -100,16 +73,6 @@ pub fn has_wrong_row(header: Header, swap: Swap) -> bool
     }
     let totals = header.totals;
     total_of(totals, swap.status) < 1
-}
-
-// Whether a valuation's timestamp is before the held one (21).
-fn is_earlier(a: Action, held: &[u8], m: &[u8]) -> bool
-    ensures { result ≡ is_earlier a held.now m.now }
-{
-    if !is_valuation(a) {
-        return false;
-    }
-    dates::is_before(element(m, VALUATION_TIMESTAMP), held)
 }
 
 // Whether a message has to repeat the stored execution time and has another one (16).
@@ -135,79 +98,46 @@ fn finds_full(a: Action, header: Header) -> bool
 // Each function below judges one rule, in checking order, and hands on to the next. The number is the rule's.
 
 // 3. The first rule up to 17 that the message breaks, or its admission.
-pub fn decide(
-    l: &[u8],
-    values: &[u8],
-    tape: &[u8],
-    m: &[u8],
-    longest: usize,
-    largest: u32,
-) -> Decision
-    ensures { result ≡ decision (limits_of longest largest) (lent_of l.now values.now tape.now) m.now }
+pub fn decide(l: &[u8], tape: &[u8], m: &[u8], longest: usize, largest: u32) -> Decision
+    ensures { result ≡ decision (limits_of longest largest) (lent_of l.now tape.now) m.now }
 {
     let HeaderCheck::Value(header) = read_header(l, largest) else {
         return Decision::Refused(LEDGER_WRONG, 0);
     };
-    decide_values(l, values, tape, m, longest, header)
-}
-
-// 20
-fn decide_values(
-    l: &[u8],
-    values: &[u8],
-    tape: &[u8],
-    m: &[u8],
-    longest: usize,
-    header: Header,
-) -> Decision
-    requires { HeaderRead header l.now }
-    ensures { (largest : ℕ) → result ≡ decision_from values_wrong (limits_of longest largest) (lent_of l.now values.now tape.now) m.now }
-{
-    if !has_values(values, header) {
-        return Decision::Refused(VALUES_WRONG, 0);
-    }
-    decide_tape(l, values, tape, m, longest, header)
+    decide_tape(l, tape, m, longest, header)
 }
 
 // 4
-fn decide_tape(
-    l: &[u8],
-    values: &[u8],
-    tape: &[u8],
-    m: &[u8],
-    longest: usize,
-    header: Header,
-) -> Decision
-    requires { HeaderRead header l.now × ValuesRead header values.now }
-    ensures { (largest : ℕ) → result ≡ decision_from tape_short (limits_of longest largest) (lent_of l.now values.now tape.now) m.now }
+fn decide_tape(l: &[u8], tape: &[u8], m: &[u8], longest: usize, header: Header) -> Decision
+    requires { HeaderRead header l.now }
+    ensures { (largest : ℕ) → result ≡ decision_from tape_short (limits_of longest largest) (lent_of l.now tape.now) m.now }
 {
     if tape.len() < LINE_SIZE {
         return Decision::Refused(TAPE_SHORT, 0);
     }
-    decide_message(l, values, m, longest, header)
+    decide_message(l, m, longest, header)
 }
 
 // the rules of the message alone
-fn decide_message(l: &[u8], values: &[u8], m: &[u8], longest: usize, header: Header) -> Decision
-    requires { HeaderRead header l.now × ValuesRead header values.now }
-    ensures { (largest : ℕ) (tape : Bytes) → result ≡ decision_from layout_wrong (limits_of longest largest) (lent_of l.now values.now tape) m.now }
+fn decide_message(l: &[u8], m: &[u8], longest: usize, header: Header) -> Decision
+    requires { HeaderRead header l.now }
+    ensures { (largest : ℕ) (b : Buffers) → result ≡ decision_from layout_wrong (limits_of longest largest) (record { ledger = l.now; buffers = b }) m.now }
 {
     match judge(m, longest) {
         Judged::Refused(verdict, element) => Decision::Refused(verdict, element),
-        Judged::Value(action) => decide_swap(l, values, m, header, action),
+        Judged::Value(action) => decide_swap(l, m, header, action),
     }
 }
 
-// 14 to 17 and 21, with what ledger and valuation table have of the swap: from here on values decide.
-fn decide_swap(l: &[u8], values: &[u8], m: &[u8], header: Header, action: Action) -> Decision
-    requires { HeaderRead header l.now × ValuesRead header values.now }
-    ensures { result ≡ decision_in action l.now values.now m.now }
+// 14 to 17, with what the ledger has of the swap: from here on values decide.
+fn decide_swap(l: &[u8], m: &[u8], header: Header, action: Action) -> Decision
+    requires { HeaderRead header l.now }
+    ensures { result ≡ decision_in action l.now m.now }
 {
     let swap = find_swap(l, header.rows as usize, element(m, UTI));
     let time = time_of(l, swap.known, swap.place);
-    let held = held_of(values, action, swap.known, swap.place);
     let caps = header.caps;
-    decide_row(action, header, swap, time, held, cap_of(caps, action, m), m)
+    decide_row(action, header, swap, time, cap_of(caps, action, m), m)
 }
 
 // 14
@@ -216,16 +146,15 @@ fn decide_row(
     header: Header,
     swap: Swap,
     time: &[u8],
-    held: &[u8],
     cap: u64,
     m: &[u8],
 ) -> Decision
-    ensures { result ≡ decided_from row_wrong header swap time.now held.now m.now (admission_for action header swap cap) }
+    ensures { result ≡ decided_from row_wrong header swap time.now m.now (admission_for action header swap cap) }
 {
     if has_wrong_row(header, swap) {
         return Decision::Refused(ROW_WRONG, 0);
     }
-    decide_step(action, header, swap, time, held, cap, m)
+    decide_step(action, header, swap, time, cap, m)
 }
 
 // 15
@@ -234,11 +163,10 @@ fn decide_step(
     header: Header,
     swap: Swap,
     time: &[u8],
-    held: &[u8],
     cap: u64,
     m: &[u8],
 ) -> Decision
-    ensures { result ≡ decided_from not_admitted header swap time.now held.now m.now (admission_for action header swap cap) }
+    ensures { result ≡ decided_from not_admitted header swap time.now m.now (admission_for action header swap cap) }
 {
     let status = status_after(action, swap.status);
     if status == NO_STEP {
@@ -254,23 +182,12 @@ fn decide_step(
         next: header.next,
         cap,
     };
-    decide_earlier(s, header, time, held, m)
-}
-
-// 21
-fn decide_earlier(s: Admission, header: Header, time: &[u8], held: &[u8], m: &[u8]) -> Decision
-    ensures { (swap : SwapValues) → result ≡ decided_from valuation_earlier header swap time.now held.now m.now s }
-{
-    let a = s.action;
-    if is_earlier(a, held, m) {
-        return Decision::Refused(VALUATION_EARLIER, 0);
-    }
     decide_time(s, header, time, m)
 }
 
 // 16
 fn decide_time(s: Admission, header: Header, time: &[u8], m: &[u8]) -> Decision
-    ensures { (swap : SwapValues) (held : Bytes) → result ≡ decided_from other_time header swap time.now held m.now s }
+    ensures { (swap : SwapValues) → result ≡ decided_from other_time header swap time.now m.now s }
 {
     let a = s.action;
     if has_other_time(a, time, m) {
@@ -281,7 +198,7 @@ fn decide_time(s: Admission, header: Header, time: &[u8], m: &[u8]) -> Decision
 
 // 17
 fn decide_room(s: Admission, header: Header) -> Decision
-    ensures { (swap : SwapValues) (time held m : Bytes) → result ≡ decided_from ledger_full header swap time held m s }
+    ensures { (swap : SwapValues) (time m : Bytes) → result ≡ decided_from ledger_full header swap time m s }
 {
     let a = s.action;
     if finds_full(a, header) {

@@ -1,5 +1,5 @@
-// The operations (specification, section 10): open a ledger, submit a message, ask the status of a swap, the totals, the valuation of a swap. A C host
-// reaches them through include/sdr.h.
+// The operations (specification, section 10): open a ledger, submit a message, ask the status of a swap, ask the totals. A C host reaches them through
+// include/sdr.h.
 mod answer;
 mod apply;
 mod conclude;
@@ -13,16 +13,14 @@ ghost use Rattle.submission.specs.Lent.{lent_of};
 ghost use Rattle.submission.specs.Submission.{submitted};
 ghost use Rattle.submission.specs.Status.{asked};
 ghost use Rattle.submission.specs.Totals.{asked_totals};
-ghost use Rattle.submission.specs.Valuation.{valued};
-ghost use Rattle.repository.specs.Answers.{caps_of, submission_answer, question_answer, valuation_answer, answer_in};
-ghost use Rattle.repository.specs.Demands.{OpeningDemands, SubmissionDemands, QuestionDemands, TotalsDemands, ValuationDemands};
+ghost use Rattle.repository.specs.Answers.{caps_of, submission_answer, question_answer, answer_in};
+ghost use Rattle.repository.specs.Demands.{OpeningDemands, SubmissionDemands, QuestionDemands, TotalsDemands};
 
 use answer::pack;
 pub use answer::{Answer, refusal};
 use ledger::{Caps, TOTALS};
+use operations::status;
 pub use operations::{open, submit};
-use operations::{status, valuation};
-use valuations::RECORD_SIZE;
 
 // The specification's limits: the longest message in bytes, and the largest capacity in rows.
 pub const LONGEST_MESSAGE: usize = 2_048;
@@ -56,26 +54,14 @@ pub extern "C" fn sdr_open(
 
 // Submits a message; answers verdict, element and the identifier of its line in one number.
 #[unsafe(no_mangle)]
-pub extern "C" fn sdr_submit(
-    ledger: &mut [u8],
-    values: &mut [u8],
-    tape: &mut [u8],
-    message: &[u8],
-) -> u64
+pub extern "C" fn sdr_submit(ledger: &mut [u8], tape: &mut [u8], message: &[u8]) -> u64
     ensures result_value { answer_in result
-        ≡ submission_answer (submitted document_limits (lent_of ledger.old values.old tape.old) message.now) }
-    ensures tape_after { lent_of ledger.new values.new tape.new
-        ≡ (submitted document_limits (lent_of ledger.old values.old tape.old) message.now).lent }
+        ≡ submission_answer (submitted document_limits (lent_of ledger.old tape.old) message.now) }
+    ensures tape_after { lent_of ledger.new tape.new
+        ≡ (submitted document_limits (lent_of ledger.old tape.old) message.now).lent }
     ensures submission_demands { SubmissionDemands }
 {
-    let a = submit(
-        ledger,
-        values,
-        tape,
-        message,
-        LONGEST_MESSAGE,
-        LARGEST_CAPACITY,
-    );
+    let a = submit(ledger, tape, message, LONGEST_MESSAGE, LARGEST_CAPACITY);
     pack(a.verdict, a.element, a.status, a.identifier)
 }
 
@@ -97,20 +83,4 @@ pub extern "C" fn sdr_totals(ledger: &[u8], totals: &mut [u32; TOTALS]) -> u32
     ensures totals_demands { TotalsDemands }
 {
     operations::totals(ledger, totals, LARGEST_CAPACITY) as u32
-}
-
-// Asks the valuation of a swap; answers verdict, element and whether one is held in one number. Where none is held the record is zeros.
-#[unsafe(no_mangle)]
-pub extern "C" fn sdr_valuation(
-    ledger: &[u8],
-    values: &[u8],
-    uti: &[u8],
-    bytes: &mut [u8; RECORD_SIZE],
-) -> u64
-    ensures result_value { answer_in result ≡ valuation_answer (valued document_limits ledger.now values.now uti.now) }
-    ensures bytes_after { bytes.new ≡ (valued document_limits ledger.now values.now uti.now).bytes }
-    ensures valuation_demands { ValuationDemands }
-{
-    let a = valuation(ledger, values, uti, bytes, LARGEST_CAPACITY);
-    pack(a.verdict, a.element, a.status, a.identifier)
 }

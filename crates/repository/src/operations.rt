@@ -5,22 +5,19 @@ ghost use Rattle.submission.specs.Lent.{lent_of};
 ghost use Rattle.submission.specs.Submission.{submitted};
 ghost use Rattle.submission.specs.Status.{asked};
 ghost use Rattle.submission.specs.Totals.{asked_totals};
-ghost use Rattle.submission.specs.Valuation.{valued};
-ghost use Rattle.valuations.specs.Records.{no_record};
-ghost use Rattle.repository.specs.Answers.{limits_of, refusal_answer, submission_answer, question_answer, valuation_answer};
+ghost use Rattle.repository.specs.Answers.{limits_of, submission_answer, question_answer};
 ghost use Rattle.repository.specs.Decision.{decision_answer};
 
 use crate::answer::{Answer, refusal};
 use crate::conclude::conclude;
-use crate::decide::{Decision, decide, has_values, has_wrong_row};
-use crate::verdicts::{CAP_WRONG, LEDGER_SHORT, LEDGER_WRONG, ROW_WRONG, VALUES_WRONG};
+use crate::decide::{Decision, decide, has_wrong_row};
+use crate::verdicts::{CAP_WRONG, LEDGER_SHORT, LEDGER_WRONG, ROW_WRONG};
 use elements::{UTI, has_form};
 use ledger::{
     Caps, HeaderCheck, SHORTEST_LEDGER, TOTALS, are_caps, capacity_for, find_swap, in_order,
     read_header, write_header,
 };
 use rules::FORM_BROKEN;
-use valuations::{RECORD_SIZE, show_record};
 
 // Writes the header of a new ledger and answers 0, or answers the verdict and writes nothing.
 pub fn open(l: &mut [u8], caps: Caps, largest: u32) -> u8
@@ -48,23 +45,16 @@ fn answer_of(d: Decision) -> Answer
     }
 }
 
-// Judges a message; changes ledger, valuation table and tape buffer where it is accepted.
-pub fn submit(
-    l: &mut [u8],
-    values: &mut [u8],
-    tape: &mut [u8],
-    m: &[u8],
-    longest: usize,
-    largest: u32,
-) -> Answer
-    ensures value { result ≡ submission_answer (submitted (limits_of longest largest) (lent_of l.old values.old tape.old) m.now) }
-    ensures tape_after { lent_of l.new values.new tape.new ≡ (submitted (limits_of longest largest) (lent_of l.old values.old tape.old) m.now).lent }
+// Judges a message; changes ledger and tape buffer where it is accepted.
+pub fn submit(l: &mut [u8], tape: &mut [u8], m: &[u8], longest: usize, largest: u32) -> Answer
+    ensures value { result ≡ submission_answer (submitted (limits_of longest largest) (lent_of l.old tape.old) m.now) }
+    ensures tape_after { lent_of l.new tape.new ≡ (submitted (limits_of longest largest) (lent_of l.old tape.old) m.now).lent }
 {
-    let decision = decide(l, values, tape, m, longest, largest);
+    let decision = decide(l, tape, m, longest, largest);
     let Decision::Value(admission) = decision else {
         return answer_of(decision);
     };
-    conclude(l, values, tape, m, admission)
+    conclude(l, tape, m, admission)
 }
 
 // The swap's status and last identifier.
@@ -101,46 +91,4 @@ pub fn totals(l: &[u8], dst: &mut [u32; TOTALS], largest: u32) -> u8
     let stored = header.totals;
     *dst = in_order(stored);
     0
-}
-
-// A refusal of the valuation question, with zeros beside it.
-fn without_record(dst: &mut [u8; RECORD_SIZE], verdict: u8, element: u8) -> Answer
-    ensures value { result ≡ refusal_answer verdict element }
-    ensures dst_after { dst.new ≡ no_record }
-{
-    *dst = [0; RECORD_SIZE];
-    refusal(verdict, element)
-}
-
-// Whether a valuation is held of the swap, and the record; zeros where none is and beside a refusal.
-pub fn valuation(
-    l: &[u8],
-    values: &[u8],
-    uti: &[u8],
-    dst: &mut [u8; RECORD_SIZE],
-    largest: u32,
-) -> Answer
-    ensures by_index { (longest : ℕ) → result ≡ valuation_answer (valued (limits_of longest largest) l.now values.now uti.now) }
-    ensures by_index_2 { (longest : ℕ) → dst.new ≡ (valued (limits_of longest largest) l.now values.now uti.now).bytes }
-{
-    let HeaderCheck::Value(header) = read_header(l, largest) else {
-        return without_record(dst, LEDGER_WRONG, 0);
-    };
-    if !has_values(values, header) {
-        return without_record(dst, VALUES_WRONG, 0);
-    }
-    if !has_form(UTI, uti) {
-        return without_record(dst, FORM_BROKEN, UTI);
-    }
-    let swap = find_swap(l, header.rows as usize, uti);
-    if has_wrong_row(header, swap) {
-        return without_record(dst, ROW_WRONG, 0);
-    }
-    let held = show_record(values, swap.known, swap.place, dst);
-    Answer {
-        verdict: 0,
-        element: 0,
-        status: held as u8,
-        identifier: 0,
-    }
 }

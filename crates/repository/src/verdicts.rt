@@ -16,7 +16,3 @@ pub const OTHER_TIME: u8 = 16;
 pub const LEDGER_FULL: u8 = 17;
 
 pub const IDENTIFIERS_SPENT: u8 = 18;
-
-pub const VALUES_WRONG: u8 = 20;
-
-pub const VALUATION_EARLIER: u8 = 21;

@@ -1,4 +1,3 @@
 pub mod FindingLaws
 pub mod JudgeLaws
 pub mod VerdictLaws
-pub mod ValuesDecide

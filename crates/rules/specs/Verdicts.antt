@@ -5,15 +5,15 @@ use Rattle.std.specs.Prelude.{ℕ}
 abbrev pub layout_wrong : ℕ
 layout_wrong = 5
 
--- The action is missing or not one of the eight.
+-- The action is missing or not one of the seven.
 abbrev pub action_wrong : ℕ
 action_wrong = 6
 
--- An element needed by all messages, or by those of its kind, is missing.
+-- An element needed by all, or by a full action, is missing.
 abbrev pub element_missing : ℕ
 element_missing = 7
 
--- The message has an element that messages of its kind do not take.
+-- TERM, EROR or PRTO has an element above 5.
 abbrev pub element_not_taken : ℕ
 element_not_taken = 8
 

@@ -1,12 +1,12 @@
--- What the verdict 0 tells of ledger, valuation table, tape buffer and message. Assumes nothing.
-use Prim.Native.Nat.{ℕ, suc, ◌+◌, ◌-◌, ◌<◌, ◌≤◌}
+-- What the verdict 0 tells of ledger, tape buffer and message. Assumes nothing.
+use Prim.Native.Nat.{ℕ, suc, ◌-◌, ◌<◌, ◌≤◌}
 use mathlib.Core.Bool.{Bool, true, false, not, false≢true}
 use mathlib.Core.Path.{◌≡◌, refl, sym, ap, ◌∙◌, subst}
 use mathlib.Core.List.{[], ◌∷◌, ◌++◌}
 use native.Mathlib.Omega.{arith}
 use lib.ListN.{length}
 use lib.Dec.{eqb, leb, ltb, lit≤}
-use borrow.Author.Tests.{eqb-true, eqb-false, ne_eqb, leb-true, ltb-true, ltb-false}
+use borrow.Author.Tests.{eqb-false, ne_eqb, leb-true, ltb-true, ltb-false}
 use Rattle.octets.specs.Bytes.{Bytes}
 use Rattle.octets.specs.Choice.{choose, both}
 use Rattle.octets.proofs.ChoiceLaws.{both_first, both_second, both_false, not_not}
@@ -21,12 +21,11 @@ use Rattle.actions.proofs.TableLaws.{step_to}
 use Rattle.actions.proofs.KindLaws.{old_unknown, new_unknown}
 use Rattle.elements.specs.Codes.{uti}
 use Rattle.message.specs.Values.{is_there}
-use Rattle.valuations.specs.Layout.{record_start}
 use Rattle.elements.specs.Forms.{has_form}
-use Rattle.elements.specs.Messages.{takes, needs as is-needed}
-use Rattle.elements.specs.Table.{element_of, last_code}
-use Rattle.rules.specs.declared.checks.Check.TheVariants.{Needed, Taken, Formed}
-use Rattle.rules.specs.Verdicts.{layout_wrong, action_wrong, element_missing, element_not_taken, form_broken}
+use Rattle.elements.specs.Messages.{needs as is-needed}
+use Rattle.elements.specs.Table.{element_of}
+use Rattle.rules.specs.declared.checks.Check.TheVariants.{Needed, Formed}
+use Rattle.rules.specs.Verdicts.{layout_wrong, action_wrong, element_missing, form_broken}
 use Rattle.rules.specs.Findings.{passed, broken, test, first_broken, finding_of, from_rule, before_rule, AllPassed}
 use Rattle.rules.specs.Rules.{rules_for, rules_of, at_fault}
 use Rattle.rules.proofs.FindingLaws.{not_broken, unused, distinct, all_passed, is_passed, none_broken, passed_before, passed_from, passed_front, passed_then, lowest_passed}
@@ -36,10 +35,10 @@ use Rattle.ledger.specs.Header.{rows_in_use, next_identifier, capacity_in, heade
 use Rattle.ledger.specs.Rows.{place_of, is_known, swap_status, swap_identifier, swap_time, swap_in}
 use Rattle.ledger.proofs.TotalsLaws.{total_of_lem}
 use Rattle.ledger.proofs.RightHeader.{right_header}
-use Rattle.submission.specs.Verdicts.{ledger_wrong, values_wrong, tape_short, row_wrong, not_admitted, valuation_earlier, other_time, ledger_full, identifiers_spent}
+use Rattle.submission.specs.Verdicts.{ledger_wrong, tape_short, row_wrong, not_admitted, other_time, ledger_full, identifiers_spent}
 use Rattle.submission.specs.Opening.{Limits}
 use Rattle.submission.specs.Lent.{Lent}
-use Rattle.submission.specs.Submission.{swap_of, action_in, line_due_in, values_right, swap_held, row_right, has_wrong_row, is_not_admitted, is_earlier, has_other_time, finds_full, finds_spent, identifier_rule, swap_rules, rules_in, submission_rules, rules_on, admitting_rules, verdict_on, place_for, accepted, refused, concluded, submitted}
+use Rattle.submission.specs.Submission.{swap_of, action_in, line_due_in, row_right, has_wrong_row, is_not_admitted, has_other_time, finds_full, finds_spent, identifier_rule, swap_rules, rules_in, submission_rules, rules_on, admitting_rules, verdict_on, place_for, accepted, refused, concluded, submitted}
 
 -- ---- the rules
 
@@ -160,10 +159,6 @@ module _ {limits : Limits} {lent : Lent} {m : Bytes} (c : Admitted limits lent m
   unfolding submission_rules rules_for rules_of swap_rules finding_of before_rule
   header_test = not_not _ (not_broken _ (rule_passed ledger_wrong))
 
-  values_test : values_right l lent.buffers.values ≡ true
-  unfolding submission_rules rules_for rules_of swap_rules finding_of before_rule
-  values_test = not_not _ (not_broken _ (rule_passed values_wrong))
-
   pub tape_test : ltb (length lent.buffers.tape) line_size ≡ false
   unfolding submission_rules rules_for rules_of swap_rules finding_of before_rule
   tape_test = not_broken _ (rule_passed tape_short)
@@ -176,10 +171,6 @@ module _ {limits : Limits} {lent : Lent} {m : Bytes} (c : Admitted limits lent m
   unfolding submission_rules rules_for rules_of swap_rules finding_of before_rule is_not_admitted
   status_test = not_broken _ (rule_passed not_admitted)
 
-  pub earlier_test : is_earlier a (swap_held l lent.buffers.values (swap_of m)) m ≡ false
-  unfolding submission_rules rules_for rules_of swap_rules finding_of before_rule
-  earlier_test = not_broken _ (rule_passed valuation_earlier)
-
   pub time_test : has_other_time a (swap_time l (swap_of m)) m ≡ false
   unfolding submission_rules rules_for rules_of swap_rules finding_of before_rule
   time_test = not_broken _ (rule_passed other_time)
@@ -187,7 +178,7 @@ module _ {limits : Limits} {lent : Lent} {m : Bytes} (c : Admitted limits lent m
   -- the rules of the message alone
   pub message_passes : AllPassed (rules_for (Value a) limits.longest m)
   unfolding submission_rules rules_for rules_of swap_rules from_rule before_rule
-  message_passes = passed_front (rules_for (Value a) limits.longest m) (rules_in a l lent.buffers.values m) (passed_from layout_wrong (admitting_rules limits (Value a) lent m) c.passes)
+  message_passes = passed_front (rules_for (Value a) limits.longest m) (rules_in a l m) (passed_from layout_wrong (admitting_rules limits (Value a) lent m) c.passes)
 
   pub room_test : both (is_new a) (eqb (rows_in_use l) (capacity_in l)) ≡ false
   unfolding submission_rules rules_for rules_of swap_rules finding_of before_rule finds_full header_of
@@ -197,12 +188,7 @@ module _ {limits : Limits} {lent : Lent} {m : Bytes} (c : Admitted limits lent m
   unfolding submission_rules rules_for rules_of swap_rules finding_of before_rule is-needed element_of
   there = not_not _ (lowest_passed (at_fault Needed a m) (rule_passed element_missing) uti (lit≤ tt) (lit≤ tt))
 
-  -- an element that is there is one that the action takes
-  pub taken_test : (code : ℕ) → 1 ≤ code → code ≤ last_code → is_there code m ≡ true → takes a code ≡ true
-  unfolding submission_rules rules_for rules_of swap_rules finding_of before_rule
-  taken_test code least most here = not_not _ (both_false (is_there code m) (not (takes a code)) (lowest_passed (at_fault Taken a m) (rule_passed element_not_taken) code least most) here)
-
-  pub formed : has_form uti (swap_of m) ≡ true
+  formed : has_form uti (swap_of m) ≡ true
   unfolding submission_rules rules_for rules_of swap_rules finding_of before_rule
   formed =
       let f : both (is_there uti m) (not (has_form uti (swap_of m))) ≡ false = lowest_passed (at_fault Formed a m) (rule_passed form_broken) uti (lit≤ tt) (lit≤ tt) in
@@ -252,14 +238,6 @@ module _ {limits : Limits} {lent : Lent} {m : Bytes} (c : Admitted limits lent m
         counted = λ e. known_counted (step_known l (swap_of m) a status_test e);
         step = step_to a (swap_status l (swap_of m)) status_test;
       }
-
-  -- the valuation table has a record for each row of the capacity
-  pub values_long : length lent.buffers.values ≡ record_start (capacity_in l)
-  unfolding values_right
-  values_long = eqb-true _ _ values_test
-
-  pub record_room : record_start (place_for a l m + 1) ≤ length lent.buffers.values
-  record_room = omega (arith, values_long, has_place.place)
 
 -- ---- what a submission then is
 

@@ -27,14 +27,13 @@ use Rattle.rules.proofs.VerdictLaws.{naming_numbers, action_at_fault}
 use Rattle.ledger.specs.Layout.{shortest_ledger}
 use Rattle.ledger.specs.Header.{are_caps, capacity_for, header_right, header_of, new_header}
 use Rattle.ledger.specs.Rows.{swap_in}
-use Rattle.submission.specs.Verdicts.{ledger_short, cap_wrong, ledger_wrong, values_wrong, row_wrong, opening_numbers, submission_numbers, totals_numbers}
+use Rattle.submission.specs.Verdicts.{ledger_short, cap_wrong, ledger_wrong, row_wrong, opening_numbers, submission_numbers, totals_numbers}
 use Rattle.submission.specs.Opening.{Limits, opening_rules, opening_verdict, opened}
 use Rattle.submission.specs.Lent.{Lent}
-use Rattle.submission.specs.Submission.{action_in, values_right, has_wrong_row, swap_rules, submission_rules, rules_on, verdict_on, Submitted, submitted}
+use Rattle.submission.specs.Submission.{action_in, has_wrong_row, swap_rules, submission_rules, rules_on, verdict_on, Submitted, submitted}
 use Rattle.submission.specs.Status.{status_rules, answered, asked}
 use Rattle.submission.specs.Totals.{no_totals, totals_beside, totals_rules, asked_totals}
-use Rattle.submission.specs.Valuation.{valuation_rules, valued_beside, valued}
-use Rattle.submission.specs.Demand1.{NamesLowest, Names, Refusal, SubmissionAnswers, OpeningAnswers, Question, QuestionAnswers, TotalsAnswers, ValuationAnswer, ValuationAnswers}
+use Rattle.submission.specs.Demand1.{NamesLowest, Names, Refusal, SubmissionAnswers, OpeningAnswers, Question, QuestionAnswers, TotalsAnswers}
 use Rattle.submission.proofs.Acceptance.{numbers_differ, accepted_answer}
 use Rattle.submission.proofs.Outcome.{when_refused, when_accepted, verdict_is}
 
@@ -178,16 +177,3 @@ totals_answers limits l z = by (header_right limits.largest l) z
     by : (b : Bool) → (verdict b ≡ 0 → ⊥) → (is_one_of totals_numbers (verdict b) ≡ true) × ((totals_beside (verdict b) l).totals ≡ no_totals)
     by true n = absurd (n refl)
     by false n = (refl, refl)
-
--- ---- the valuation question
-
-pub valuation_answers : ValuationAnswers
-unfolding valued valuation_rules first_broken is_one_of
-valuation_answers limits l values u = by (not (header_right limits.largest l)) (not (values_right l values)) (has_form uti u) (has_wrong_row (header_of l) (swap_in l u))
-  where
-    by : (a t b c : Bool) → ValuationAnswer (valued_beside (first_broken (test ledger_wrong a ∷ test values_wrong t ∷ naming form_broken (choose b passed (broken uti)) ∷ test row_wrong c ∷ [])) l values u)
-    by true t b c = record { named = λ e. absurd (omega arith); nothing = λ n. refl; number = λ n. refl; refused = λ n. (refl, refl) }
-    by false true b c = record { named = λ e. absurd (omega arith); nothing = λ n. refl; number = λ n. refl; refused = λ n. (refl, refl) }
-    by false false false c = record { named = λ e. refl; nothing = λ n. absurd (n refl); number = λ n. refl; refused = λ n. (refl, refl) }
-    by false false true true = record { named = λ e. absurd (omega arith); nothing = λ n. refl; number = λ n. refl; refused = λ n. (refl, refl) }
-    by false false true false = record { named = λ e. absurd (omega arith); nothing = λ n. refl; number = λ n. absurd (n refl); refused = λ n. absurd (n refl) }

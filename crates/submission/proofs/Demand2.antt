@@ -9,28 +9,23 @@ use lib.Dec.{eqb, leb, ltb}
 use borrow.Author.Tests.{eqb-false, eq-eqb, ne_eqb, leb-true, le-leb, ltb-true, ltb-false, le-ltb}
 use Rattle.octets.specs.Bytes.{Bytes}
 use Rattle.octets.specs.Choice.{choose, both}
-use Rattle.octets.specs.Part.{part, splice}
+use Rattle.octets.specs.Part.{splice}
 use Rattle.octets.specs.Fields.{Placed}
 use Rattle.octets.proofs.ChoiceLaws.{both_first, both_second, both_false, both_none, not_not}
 use Rattle.octets.proofs.SameLaws.{same_true, same_refl}
 use Rattle.octets.proofs.PartLaws.{length_splice, byte_apart}
 use Rattle.octets.proofs.FieldRun.{front_placed, front_later}
 use Rattle.values.specs.Run.{within}
-use Rattle.terms.specs.Terms.{terms_size, time_size}
-use Rattle.dates.specs.Dates.{before}
-use Rattle.message.specs.Values.{value}
+use Rattle.terms.specs.Terms.{terms_size}
 use Rattle.actions.specs.declared.Action.{Action}
-use Rattle.actions.specs.declared.Action.TheVariants.{Newt, Modi, Valu}
+use Rattle.actions.specs.declared.Action.TheVariants.{Newt, Modi}
 use Rattle.actions.specs.declared.Checked.{Checked}
 use Rattle.actions.specs.declared.Checked.TheVariants.{Value}
-use Rattle.actions.specs.Actions.{is_full, is_valuation, is_new, repeats_time, next_status}
+use Rattle.actions.specs.Actions.{is_full, is_new, repeats_time, next_status}
 use Rattle.actions.specs.Statuses.{live, ported, no_step}
-use Rattle.actions.proofs.KindLaws.{is_newt, modi_stays, valu_stays, old_if_repeats, old_if_valuation}
-use Rattle.elements.specs.Codes.{uti, valuation_timestamp}
+use Rattle.actions.proofs.KindLaws.{is_newt, modi_stays, old_if_repeats}
+use Rattle.elements.specs.Codes.{uti}
 use Rattle.elements.specs.Forms.{has_form}
-use Rattle.valuations.specs.Layout.{time_at}
-use Rattle.valuations.specs.Records.{record_at, is_held, held_time, values_after, has_record, record_shown}
-use Rattle.valuations.proofs.RecordLaws.{values_quiet}
 use Rattle.rules.specs.Verdicts.{form_broken}
 use Rattle.rules.specs.Findings.{passed, broken, Rule, test, naming, first_broken, AllPassed}
 use Rattle.rules.specs.Rules.{rules_for, rules_of, verdict}
@@ -39,7 +34,7 @@ use Rattle.rules.proofs.VerdictLaws as message
 use Rattle.ledger.specs.Layout.{u32, u64, rows_at, next_at, length_at, identifier_at, total_at, header_size, row_size, row_start, shortest_ledger, line_size}
 use Rattle.ledger.specs.Totals.{totals_in, total_of}
 use Rattle.ledger.specs.Header.{rows_in_use, next_identifier, caps_in, are_caps, capacity_for, header_right, header_of}
-use Rattle.ledger.specs.Rows.{row_at, status_of, identifier_of, stored_terms, stored_time, place_of, is_known, swap_row, swap_status, swap_identifier, swap_time, swap_in, new_row, row_after}
+use Rattle.ledger.specs.Rows.{row_at, status_of, identifier_of, stored_terms, stored_time, is_known, swap_row, swap_status, swap_identifier, swap_time, swap_in, new_row, row_after}
 use Rattle.ledger.specs.Line.{line_fields, line}
 use Rattle.ledger.proofs.TotalsLaws.{total_of_lem}
 use Rattle.ledger.proofs.NewHeader as new
@@ -48,18 +43,16 @@ use Rattle.ledger.proofs.RowAfterLaws.{row_placed}
 use Rattle.ledger.proofs.RowFields.{after_status, after_identifier, after_terms, after_kept, after_tail}
 use Rattle.ledger.proofs.ReadBack.{raised_byte}
 use Rattle.ledger.proofs.LineLaws.{line_in_place, length_line}
-use Rattle.submission.specs.Verdicts.{ledger_short, cap_wrong, ledger_wrong, values_wrong, row_wrong}
+use Rattle.submission.specs.Verdicts.{ledger_short, cap_wrong, ledger_wrong, row_wrong}
 use Rattle.submission.specs.Opening.{Limits, opening_rules, opening_verdict, opened}
 use Rattle.submission.specs.Lent.{Lent}
 use Rattle.submission.specs.Status.{status_rules, asked}
 use Rattle.submission.specs.Totals.{totals_rules, asked_totals}
-use Rattle.submission.specs.Valuation.{valuation_rules, valued}
-use Rattle.submission.specs.Submission.{submitted, swap_of, action_in, line_due_in, values_right, swap_held, row_right, has_wrong_row, is_not_admitted, is_earlier, has_other_time, finds_full, finds_spent, swap_rules, after_rules, submission_rules, rules_on, verdict_on, masked_terms, terms_for, place_for, row_for, ledger_for, line_for, tape_for}
-use Rattle.submission.specs.Demand2.{VerdictExactly, CheckingOrder, RightRow, RulesAccept, AcceptedExactly, QuietModification, Outside, MovesTotal, LedgerWritten, TapeWritten, AcceptanceWrites, OpeningExactly, EachOpeningExactly, OpeningPasses, OpeningWrites, ValuationWrites, QuestionExactly, EachQuestionExactly, TotalsExactly, EachTotalsExactly, ValuationExactly, EachValuationExactly}
+use Rattle.submission.specs.Submission.{submitted, swap_of, action_in, line_due_in, row_right, has_wrong_row, is_not_admitted, has_other_time, finds_full, finds_spent, swap_rules, after_rules, submission_rules, rules_on, verdict_on, masked_terms, terms_for, place_for, row_for, ledger_for, line_for, tape_for}
+use Rattle.submission.specs.Demand2.{VerdictExactly, CheckingOrder, RightRow, RulesAccept, AcceptedExactly, QuietModification, Outside, MovesTotal, LedgerWritten, TapeWritten, AcceptanceWrites, OpeningExactly, EachOpeningExactly, OpeningPasses, OpeningWrites, QuestionExactly, EachQuestionExactly, TotalsExactly, EachTotalsExactly}
 use Rattle.submission.proofs.LineDueLaws.{line_due_exactly, old_unless_due, new_due, same_terms}
-use Rattle.submission.proofs.Acceptance.{numbers_differ, Admitted, as_admitted, Accepted, accepted_answer, step_known, HasPlace, has_place, tape_room, values_long, record_room, row_right_lem as passed-row, status_test, earlier_test, time_test, message_passes, room_test}
+use Rattle.submission.proofs.Acceptance.{numbers_differ, Admitted, as_admitted, Accepted, accepted_answer, step_known, HasPlace, has_place, tape_room, row_right_lem as passed-row, status_test, time_test, message_passes, room_test}
 use Rattle.submission.proofs.Lookup.{row_whole, length_shown, length_after, ledger_length, new_place, old_place, ledger_stays, rows_raised, next_raised, low, high, totals_moved, row_written}
-use Rattle.submission.proofs.ValuesAfter.{values_written}
 use Rattle.submission.proofs.Outcome.{when_accepted, verdict_is}
 use Rattle.submission.proofs.Opened.{long_enough, start_is, start_right}
 use Rattle.submission.proofs.Demand1.{element_is}
@@ -110,7 +103,7 @@ module _ (l u : Bytes) (known : is_known l u ≡ true) where
       let below : identifier_of r ≤ next_identifier l - 1 = leb-true _ _ (both_second (leb 1 (identifier_of r)) (leb (identifier_of r) (next_identifier l - 1)) identifier) in
       record { least = least; most = most; given = given; before = omega arith; counted = omega (arith, total_of_lem l (status_of r) least most) }
 
-  pub row_right_lem : RightRow l (swap_row l u) → row_right (header_of l) (swap_in l u) ≡ true
+  row_right_lem : RightRow l (swap_row l u) → row_right (header_of l) (swap_in l u) ≡ true
   unfolding row_right swap_status swap_identifier header_of
   row_right_lem h =
       let below : identifier_of (swap_row l u) ≤ next_identifier l - 1 = omega (arith, h.given, h.before) in
@@ -118,7 +111,7 @@ module _ (l u : Bytes) (known : is_known l u ≡ true) where
       rw (known, le-leb _ _ h.least, le-leb _ _ h.most, le-leb _ _ h.given, le-leb _ _ below, le-leb _ _ counted)
 
 -- a test that counts only where another one holds
-pub not_where : (b t : Bool) → (b ≡ true → t ≡ false) → both b t ≡ false
+not_where : (b t : Bool) → (b ≡ true → t ≡ false) → both b t ≡ false
 not_where true t h = h refl
 not_where false t h = refl
 
@@ -127,35 +120,12 @@ known_time : (l u : Bytes) (a : Action) → eqb (next_status a (swap_status l u)
 unfolding swap_time
 known_time l u a admitted repeats = rw (step_known l u a admitted (old_if_repeats a repeats))
 
--- nothing is before nothing
-before_nothing : (v : Bytes) → before v [] ≡ false
-unfolding before
-before_nothing [] = refl
-before_nothing (x ∷ v) = refl
-
--- the timestamp that is held for a known swap
-module _ (l values u : Bytes) (known : is_known l u ≡ true) where
-  held_time_lem : is_held (record_at values (place_of l u)) ≡ true → swap_held l values u ≡ part (record_at values (place_of l u)) time_at time_size
-  unfolding swap_held held_time
-  held_time_lem h = rw (known, h)
-
-  held_nothing : is_held (record_at values (place_of l u)) ≡ false → swap_held l values u ≡ []
-  unfolding swap_held held_time
-  held_nothing h = rw (known, h)
-
 module _ (limits : Limits) (lent : Lent) (m : Bytes) where
   abbrev l : Bytes
   l = lent.ledger
 
-  abbrev values : Bytes
-  values = lent.buffers.values
-
-  -- a valuation is of a known swap
-  valued_known : (a : Action) → eqb (next_status a (swap_status l (swap_of m))) no_step ≡ false → is_valuation a ≡ true → is_known l (swap_of m) ≡ true
-  valued_known a admitted k = step_known l (swap_of m) a admitted (old_if_valuation a k)
-
   rules_accept : (submitted limits lent m).verdict ≡ 0 → RulesAccept limits lent m
-  unfolding is_earlier has_other_time finds_spent verdict
+  unfolding has_other_time finds_spent verdict
   rules_accept v =
       let w : Accepted limits lent m = when_accepted limits lent m v in
       let c : Admitted limits lent m = w.admitted in
@@ -164,14 +134,10 @@ module _ (limits : Limits) (lent : Lent) (m : Bytes) where
         action = a;
         reads = c.reads;
         header = (has_place c).header;
-        values = values_long c;
         tape = tape_room c;
         message = rw c.reads (none_broken (rules_for (Value a) limits.longest m) (message_passes c));
         row = λ k. right_row l (swap_of m) k (passed-row c k);
         step = eqb-false _ _ (status_test c);
-        valuation = λ k h.
-            subst (λ t. before (value valuation_timestamp m) t ≡ false) (held_time_lem l values (swap_of m) (valued_known a (status_test c) k) h)
-            (both_false (is_valuation a) _ (earlier_test c) k);
         time = λ k. same_true _ _ (not_not _ (both_false (repeats_time a) _ (time_test c) k)) ∙ known_time l (swap_of m) a (status_test c) k;
         room = λ k. eqb-false _ _ (both_false (is_new a) _ (room_test c) k);
         spare = λ k. eqb-false _ _ (both_false (line_due_in a l m) _ w.spare k);
@@ -185,14 +151,6 @@ module _ (limits : Limits) (lent : Lent) (m : Bytes) where
     admitted : is_not_admitted s.action (swap_in l (swap_of m)) ≡ false
     unfolding is_not_admitted
     admitted = ne_eqb _ _ s.step
-
-    not_earlier : is_earlier s.action (swap_held l values (swap_of m)) m ≡ false
-    unfolding is_earlier
-    not_earlier = not_where (is_valuation s.action) _ (λ k. by k (is_held (record_at values (place_of l (swap_of m)))) refl)
-      where
-        by : is_valuation s.action ≡ true → (b : Bool) → is_held (record_at values (place_of l (swap_of m))) ≡ b → before (value valuation_timestamp m) (swap_held l values (swap_of m)) ≡ false
-        by k true h = rw (held_time_lem l values (swap_of m) (valued_known s.action (ne_eqb _ _ s.step) k) h) (s.valuation k h)
-        by k false h = rw (held_nothing l values (swap_of m) (valued_known s.action (ne_eqb _ _ s.step) k) h) (before_nothing (value valuation_timestamp m))
 
     same_time : has_other_time s.action (swap_time l (swap_of m)) m ≡ false
     unfolding has_other_time
@@ -211,20 +169,20 @@ module _ (limits : Limits) (lent : Lent) (m : Bytes) where
         subst (λ (r : Checked). AllPassed (rules_for r limits.longest m)) s.reads
         ((message.accepted_exactly limits.longest m).0 (ap (λ v. v.0) s.message))
 
-    front_passed : first_broken (submission_rules limits (Value s.action) lent m) ≡ first_broken (rules_for (Value s.action) limits.longest m ++ after_rules (Value s.action) l values m)
-    unfolding submission_rules first_broken values_right
-    front_passed = rw (header_right_lem limits.largest l s.header, eq-eqb _ _ s.values, le-ltb (length lent.buffers.tape) line_size s.tape)
+    front_passed : first_broken (submission_rules limits (Value s.action) lent m) ≡ first_broken (rules_for (Value s.action) limits.longest m ++ after_rules (Value s.action) l m)
+    unfolding submission_rules first_broken
+    front_passed = rw (header_right_lem limits.largest l s.header, le-ltb (length lent.buffers.tape) line_size s.tape)
 
-    swap_passed : first_broken (after_rules (Value s.action) l values m) ≡ (0, 0)
+    swap_passed : first_broken (after_rules (Value s.action) l m) ≡ (0, 0)
     unfolding swap_rules first_broken
-    swap_passed = rw (right_found, admitted, not_earlier, same_time, room_found, identifier_found)
+    swap_passed = rw (right_found, admitted, same_time, room_found, identifier_found)
 
     all_passed_on : verdict_on limits lent m ≡ (0, 0)
     unfolding verdict_on
     all_passed_on =
         ap (λ r. first_broken (submission_rules limits r lent m)) s.reads
         ∙ front_passed
-        ∙ passed_then (rules_for (Value s.action) limits.longest m) (after_rules (Value s.action) l values m) message_right
+        ∙ passed_then (rules_for (Value s.action) limits.longest m) (after_rules (Value s.action) l m) message_right
         ∙ swap_passed
 
     submission_accepts : (submitted limits lent m).verdict ≡ 0
@@ -242,9 +200,7 @@ unfolding finds_spent
 quiet_answer {limits} {lent} {m} c small is due =
     let l : Bytes = lent.ledger in
     let step : next_status c.action (swap_status l (swap_of m)) ≡ swap_status l (swap_of m) = rw is (modi_stays _ (rw is at (status_test c))) in
-    let kept : values_after c.action (place_for c.action l m) m lent.buffers.values ≡ lent.buffers.values =
-    values_quiet c.action (place_for c.action l m) m lent.buffers.values (ap is_new is) (ap is_valuation is) in
-    accepted_answer (record { admitted = c; spare = rw due }) ∙ rw (due, ledger_stays (has_place c) small due step, kept)
+    accepted_answer (record { admitted = c; spare = rw due }) ∙ rw (due, ledger_stays (has_place c) small due step)
 
 pub quiet_modification : QuietModification
 quiet_modification limits small lent m reads passes same =
@@ -344,24 +300,9 @@ acceptance_writes limits small lent m v =
       action = c.action;
       reads = c.reads;
       ledger = rw (ap (λ s. s.lent.ledger) (accepted_answer w)) (ledger_written (has_place c) small);
-      values = rw (ap (λ s. s.lent.buffers.values) (accepted_answer w)) (values_written (has_place c) small lent.buffers.values (record_room c));
       tape = rw (ap (λ s. s.lent.buffers.tape) (accepted_answer w)) (tape_written c.action lent.ledger lent.buffers.tape m (tape_room c));
       identifier = ap (λ s. s.identifier) (accepted_answer w);
     }
-
--- a valuation leaves ledger and tape buffer
-pub valuation_writes : ValuationWrites
-unfolding values_after
-valuation_writes limits small lent m reads v =
-    let w : Accepted limits lent m = when_accepted limits lent m v in
-    let c : Admitted limits lent m = w.admitted in
-    let l : Bytes = lent.ledger in
-    let two : Value c.action ≡ Value Valu = sym c.reads ∙ reads in
-    let is : c.action ≡ Valu = cc in
-    let due : line_due_in c.action l m ≡ false = (line_due_exactly c.action l m).valuation is in
-    let step : next_status c.action (swap_status l (swap_of m)) ≡ swap_status l (swap_of m) = rw is (valu_stays _ (rw is at (status_test c))) in
-    let place : place_for c.action l m ≡ place_of l (swap_of m) = old_place (has_place c) small (ap is_new is) in
-    accepted_answer w ∙ rw (due, ledger_stays (has_place c) small due step, place, is)
 
 -- ---- opening
 
@@ -453,55 +394,3 @@ totals_exactly limits l = (by (header_right limits.largest l) refl, λ v. rw (eq
     by : (b : Bool) → header_right limits.largest l ≡ b → TotalsExactly limits l (first_broken (test ledger_wrong (not b) ∷ [])).0
     by true e = record { ledger = (λ z. absurd (omega arith), λ p. absurd (false≢true (sym p ∙ e))); accepted = (λ z. e, λ p. refl) }
     by false e = record { ledger = (λ z. e, λ p. refl); accepted = (λ z. absurd (omega arith), λ p. absurd (false≢true (sym e ∙ p))) }
-
--- ---- the valuation question
-
-pub valuation_exactly : EachValuationExactly
-unfolding valued valuation_rules first_broken has_record record_shown
-valuation_exactly limits l values u = (
-  by (header_right limits.largest l) refl (values_right l values) refl (has_form uti u) refl (has_wrong_row (header_of l) (swap_in l u)) refl,
-  λ v. (λ k h. rw (eq-eqb _ 0 v, k, h) (refl, refl), λ n. rw (eq-eqb _ 0 v, n) (refl, refl)),
-)
-  where
-    by : (a : Bool) → header_right limits.largest l ≡ a → (t : Bool) → values_right l values ≡ t → (b : Bool) → has_form uti u ≡ b → (c : Bool) → has_wrong_row (header_of l) (swap_in l u) ≡ c
-        → ValuationExactly limits l values u (first_broken (test ledger_wrong (not a) ∷ test values_wrong (not t) ∷ naming form_broken (choose b passed (broken uti)) ∷ test row_wrong c ∷ [])).0
-    by false e t d b f c g =
-        record {
-          ledger = (λ z. e, λ p. refl);
-          table = (λ z. absurd (omega arith), λ p. absurd (false≢true (sym e ∙ p.0)));
-          form = (λ z. absurd (omega arith), λ p. absurd (false≢true (sym e ∙ p.0)));
-          row = (λ z. absurd (omega arith), λ p. absurd (false≢true (sym e ∙ p.0)));
-          accepted = (λ z. absurd (omega arith), λ p. absurd (false≢true (sym e ∙ p.0)));
-        }
-    by true e false d b f c g =
-        record {
-          ledger = (λ z. absurd (omega arith), λ p. absurd (false≢true (sym p ∙ e)));
-          table = (λ z. (e, d), λ p. refl);
-          form = (λ z. absurd (omega arith), λ p. absurd (false≢true (sym d ∙ p.1)));
-          row = (λ z. absurd (omega arith), λ p. absurd (false≢true (sym d ∙ p.1)));
-          accepted = (λ z. absurd (omega arith), λ p. absurd (false≢true (sym d ∙ p.1)));
-        }
-    by true e true d false f c g =
-        record {
-          ledger = (λ z. absurd (omega arith), λ p. absurd (false≢true (sym p ∙ e)));
-          table = (λ z. absurd (omega arith), λ p. absurd (false≢true (sym p.1 ∙ d)));
-          form = (λ z. (e, d, f), λ p. refl);
-          row = (λ z. absurd (omega arith), λ p. absurd (false≢true (sym f ∙ p.2)));
-          accepted = (λ z. absurd (omega arith), λ p. absurd (false≢true (sym f ∙ p.2)));
-        }
-    by true e true d true f true g =
-        record {
-          ledger = (λ z. absurd (omega arith), λ p. absurd (false≢true (sym p ∙ e)));
-          table = (λ z. absurd (omega arith), λ p. absurd (false≢true (sym p.1 ∙ d)));
-          form = (λ z. absurd (omega arith), λ p. absurd (false≢true (sym p.2 ∙ f)));
-          row = (λ z. (e, d, f, g), λ p. refl);
-          accepted = (λ z. absurd (omega arith), λ p. absurd (false≢true (sym p.3 ∙ g)));
-        }
-    by true e true d true f false g =
-        record {
-          ledger = (λ z. absurd (omega arith), λ p. absurd (false≢true (sym p ∙ e)));
-          table = (λ z. absurd (omega arith), λ p. absurd (false≢true (sym p.1 ∙ d)));
-          form = (λ z. absurd (omega arith), λ p. absurd (false≢true (sym p.2 ∙ f)));
-          row = (λ z. absurd (omega arith), λ p. absurd (false≢true (sym g ∙ p.3)));
-          accepted = (λ z. (e, d, f, g), λ p. refl);
-        }

@@ -3,8 +3,6 @@ pub mod Acceptance
 pub mod Lookup
 pub mod RowsAfter
 pub mod RightAfter
-pub mod RightRows
-pub mod ValuesAfter
 pub mod Outcome
 pub mod PublishedTape
 pub mod Pairs
@@ -14,5 +12,3 @@ pub mod Demand2
 pub mod Demand3
 pub mod Counting
 pub mod SinceOpening
-pub mod Hidden
-pub mod Held

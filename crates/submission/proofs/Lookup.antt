@@ -219,7 +219,7 @@ module _ {largest : ℕ} {l m : Bytes} {a : Action} (f : HasPlace largest l m a)
           rw at (ap (holds_uti v) row_written ∙ old_row_holds e v h)
       by false g = ap (holds_uti v) (row_kept j (eqb-false _ _ g))
 
-  pub old_places : is_new a ≡ false → (v : Bytes) → length v ≤ uti_size → place_of (ledger_for a l m) v ≡ place_of l v
+  old_places : is_new a ≡ false → (v : Bytes) → length v ≤ uti_size → place_of (ledger_for a l m) v ≡ place_of l v
   unfolding place_in
   old_places e v h =
       ap (first_from (λ j. holds_uti v (row_at (ledger_for a l m) j)) 0) (rows_raised ∙ rw e)
@@ -241,7 +241,7 @@ module _ {largest : ℕ} {l m : Bytes} {a : Action} (f : HasPlace largest l m a)
   first_before e v = first_same (λ j. holds_uti v (row_at (ledger_for a l m) j)) (λ j. holds_uti v (row_at l j)) 0 (rows_in_use l) (λ j h. new_holds_before e v j (omega arith))
 
   -- a UTI that was found is found where it was
-  pub new_found : is_new a ≡ true → (v : Bytes) → place_of l v < rows_in_use l → place_of (ledger_for a l m) v ≡ place_of l v
+  new_found : is_new a ≡ true → (v : Bytes) → place_of l v < rows_in_use l → place_of (ledger_for a l m) v ≡ place_of l v
   unfolding place_in
   new_found e v h =
       let g : ℕ → Bool = λ j. holds_uti v (row_at (ledger_for a l m) j) in
@@ -272,7 +272,7 @@ module _ {largest : ℕ} {l m : Bytes} {a : Action} (f : HasPlace largest l m a)
   -- ---- any other swap
 
   module _ (v : Bytes) (h : length v ≤ uti_size) (differ : swap_of m ≡ v → ⊥) where
-    pub apart : is_new a ≡ false → place_of l v < rows_in_use l → place_of l v ≡ place_for a l m → ⊥
+    apart : is_new a ≡ false → place_of l v < rows_in_use l → place_of l v ≡ place_for a l m → ⊥
     unfolding is_known
     apart e g p =
         let own : holds_uti (swap_of m) (swap_row l (swap_of m)) ≡ true = known_holds l (swap_of m) (ltb-true _ _ (f.known e)) in

@@ -80,22 +80,19 @@ module _ {largest : ℕ} {l m : Bytes} {a : Action} (f : HasPlace largest l m a)
           let next : next_identifier (ledger_for a l m) ≡ next_identifier l = next_raised f small ∙ rw e in
           (omega (arith, next, f.header.positive), omega (arith, next, f.header.next))
 
-  pub capacity_kept : capacity_in (ledger_for a l m) ≡ capacity_in l
-  unfolding fixed_in
-  capacity_kept = ap (λ x. x.2) (fixed_kept f small)
-
   pub right_after : finds_spent (line_due_in a l m) (next_identifier l) ≡ false → RightHeader largest (ledger_for a l m)
   unfolding fixed_in
   right_after spare =
       let fixed = fixed_kept f small in
+      let capacity : capacity_in (ledger_for a l m) ≡ capacity_in l = ap (λ x. x.2) fixed in
       record {
         long = omega (arith, ledger_length f small, f.header.long);
         offset = ap (λ x. x.0) fixed ∙ f.header.offset;
         positive = (next_range spare).0;
         next = (next_range spare).1;
         size = ap (λ x. x.1) fixed ∙ f.header.size;
-        capacity = capacity_kept ∙ f.header.capacity ∙ ap (capacity_for largest) (sym (ledger_length f small));
-        rows = omega (arith, rows_most, capacity_kept);
+        capacity = capacity ∙ f.header.capacity ∙ ap (capacity_for largest) (sym (ledger_length f small));
+        rows = omega (arith, rows_most, capacity);
         caps = ap are_caps (caps_kept f small) ∙ f.header.caps;
         totals = sum_after;
       }

@@ -62,12 +62,12 @@ module _ (limits : Limits) (small : limits.largest < 256 ^ u32) where
 -- ---- the totals
 
 -- a right header whose totals are a full count
-pub record Counted (largest : ℕ) (l : Bytes) : Type 0 where
-  pub right : RightHeader largest l
-  pub totals : (s : ℕ) → live ≤ s → s ≤ ported → total_in s l ≡ count_of s (rows_of l)
+record Counted (largest : ℕ) (l : Bytes) : Type 0 where
+  right : RightHeader largest l
+  totals : (s : ℕ) → live ≤ s → s ≤ ported → total_in s l ≡ count_of s (rows_of l)
 
 module _ (limits : Limits) (small : limits.largest < 256 ^ u32) where
-  pub counted_kept : (l : Bytes) (c : Call) → Counted limits.largest l → Counted limits.largest (ledger_after limits l c)
+  counted_kept : (l : Bytes) (c : Call) → Counted limits.largest l → Counted limits.largest (ledger_after limits l c)
   counted_kept l (submit m b) h =
       by_outcome limits (record { ledger = l; buffers = b }) m (λ s. Counted limits.largest s.lent.ledger)
       (λ c.
@@ -79,7 +79,7 @@ module _ (limits : Limits) (small : limits.largest < 256 ^ u32) where
       (λ v z. h)
 
   module _ (caps : Caps) (l : Bytes) (v : (opened limits caps l).verdict ≡ 0) where
-    pub start_counted : Counted limits.largest (start limits caps l)
+    start_counted : Counted limits.largest (start limits caps l)
     unfolding count
     start_counted =
         record {

@@ -1,24 +1,22 @@
--- Demand 1 (specification, clause 12.1): any bytes in message, ledger, valuation table or tape buffer get an answer; a refusal has its number, names the element where one is at
--- fault, and changes no byte of ledger, valuation table or tape buffer. That any bytes get an answer lies in the definitions: they are functions of lists of any length.
+-- Demand 1 (specification, clause 12.1): any bytes in message, ledger or tape buffer get an answer; a refusal has its number, names the element where one is at fault, and changes no
+-- byte of ledger or tape buffer. That any bytes get an answer lies in the definitions: they are functions of lists of any length.
 use Rattle.std.specs.Prelude.{ℕ, true, ◌≡◌}
 use Rattle.octets.specs.Bytes.{Bytes}
 use Rattle.actions.specs.declared.Action.{Action}
 use Rattle.actions.specs.declared.Checked.TheVariants.{Value}
 use Rattle.actions.specs.Actions.{action_type}
 use Rattle.elements.specs.Codes.{uti}
-use Rattle.valuations.specs.Records.{no_record}
 use Rattle.rules.specs.declared.checks.Check.{Check}
 use Rattle.rules.specs.Verdicts.{action_wrong, form_broken}
 use Rattle.rules.specs.Findings.{is_one_of, LowestAtFault}
 use Rattle.rules.specs.Rules.{at_fault, number_of}
 use Rattle.ledger.specs.declared.header.Caps.{Caps}
-use Rattle.submission.specs.Verdicts.{opening_numbers, submission_numbers, question_numbers, totals_numbers, valuation_numbers}
+use Rattle.submission.specs.Verdicts.{opening_numbers, submission_numbers, question_numbers, totals_numbers}
 use Rattle.submission.specs.Opening.{Limits, opened}
 use Rattle.submission.specs.Lent.{Lent}
 use Rattle.submission.specs.Submission.{Submitted, submitted, action_in}
 use Rattle.submission.specs.Status.{Asked, asked}
 use Rattle.submission.specs.Totals.{no_totals, asked_totals}
-use Rattle.submission.specs.Valuation.{Valued, valued}
 
 -- 7, 8, 9 and 11 name the lowest element code at fault
 pub record NamesLowest (check : Check) (m : Bytes) (element : ℕ) : Type 0 where
@@ -32,7 +30,7 @@ pub record Names (s : Submitted) (m : Bytes) : Type 0 where
   pub action : s.verdict ≡ action_wrong → s.element ≡ action_type
   pub nothing : (s.verdict ≡ action_wrong → ⊥) → ((check : Check) → s.verdict ≡ number_of check → ⊥) → s.element ≡ 0
 
--- a refusal: its number, no identifier beside it, and no byte of ledger, valuation table or tape buffer is changed
+-- a refusal: its number, no identifier beside it, and no byte of ledger or tape buffer is changed
 pub record Refusal (s : Submitted) (lent : Lent) : Type 0 where
   pub number : is_one_of submission_numbers s.verdict ≡ true
   pub identifier : s.identifier ≡ 0
@@ -66,13 +64,3 @@ TotalsAnswers =
     (limits : Limits) (l : Bytes)
     → ((asked_totals limits l).verdict ≡ 0 → ⊥)
     → (is_one_of totals_numbers (asked_totals limits l).verdict ≡ true) × ((asked_totals limits l).totals ≡ no_totals)
-
--- the valuation question: 9 names 1; a refusal has its number, and beside it nothing is held and the bytes are zeros
-pub record ValuationAnswer (a : Valued) : Type 0 where
-  pub named : a.verdict ≡ form_broken → a.element ≡ uti
-  pub nothing : (a.verdict ≡ form_broken → ⊥) → a.element ≡ 0
-  pub number : (a.verdict ≡ 0 → ⊥) → is_one_of valuation_numbers a.verdict ≡ true
-  pub refused : (a.verdict ≡ 0 → ⊥) → (a.state ≡ 0) × (a.bytes ≡ no_record)
-
-abbrev pub ValuationAnswers : Type 0
-ValuationAnswers = (limits : Limits) (l values u : Bytes) → ValuationAnswer (valued limits l values u)

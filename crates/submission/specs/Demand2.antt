@@ -1,21 +1,17 @@
--- Demand 2 (specification, clause 12.2): each verdict, ledger row, valuation record and tape line is the specified one; 0 where no rule is broken, else the first rule broken.
+-- Demand 2 (specification, clause 12.2): each verdict, ledger row and tape line is the specified one; 0 where no rule is broken, else the first rule broken.
 use Rattle.std.specs.Prelude.{ℕ, ◌+◌, ◌-◌, ◌^◌, ◌<◌, ◌≤◌, true, false, ◌≡◌, ◌↔◌, [], ◌∷◌, map, length, get_or, drop, eqb}
 use Rattle.octets.specs.Bytes.{Bytes}
 use Rattle.octets.specs.Choice.{choose}
 use Rattle.octets.specs.Part.{part}
 use Rattle.octets.specs.Fields.{Placed}
-use Rattle.dates.specs.Dates.{before}
 use Rattle.message.specs.Values.{value}
 use Rattle.actions.specs.declared.Action.{Action}
-use Rattle.actions.specs.declared.Action.TheVariants.{Modi, Prto, Valu}
+use Rattle.actions.specs.declared.Action.TheVariants.{Modi, Prto}
 use Rattle.actions.specs.declared.Checked.TheVariants.{Value}
-use Rattle.actions.specs.Actions.{is_full, is_valuation, is_new, repeats_time, next_status}
+use Rattle.actions.specs.Actions.{is_full, is_new, repeats_time, next_status}
 use Rattle.actions.specs.Statuses.{live, closed, errored, ported, no_step}
-use Rattle.elements.specs.Codes.{uti, execution_timestamp, valuation_timestamp}
+use Rattle.elements.specs.Codes.{uti, execution_timestamp}
 use Rattle.elements.specs.Forms.{has_form}
-use Rattle.terms.specs.Terms.{time_size}
-use Rattle.valuations.specs.Layout.{time_at, record_size, record_start}
-use Rattle.valuations.specs.Records.{record_at, held, is_held, record_fields, record_of, no_record, with_record, has_record}
 use Rattle.rules.specs.Verdicts.{form_broken}
 use Rattle.rules.specs.Findings.{rule_number, AllPassed, FirstBroken}
 use Rattle.rules.specs.Rules.{verdict}
@@ -23,15 +19,14 @@ use Rattle.ledger.specs.declared.header.Caps.{Caps}
 use Rattle.ledger.specs.Layout.{u32, u64, rows_at, next_at, status_at, length_at, identifier_at, tail_at, tail_size, total_at, header_size, row_size, row_start, shortest_ledger, line_size, identifier_limit}
 use Rattle.ledger.specs.Totals.{total_in, adds}
 use Rattle.ledger.specs.Header.{rows_in_use, next_identifier, capacity_in, caps_in, are_caps, capacity_for, header_right, RightHeader, header_of, header_fields}
-use Rattle.ledger.specs.Rows.{row_at, status_of, identifier_of, stored_terms, stored_time, place_of, is_known, swap_row, swap_status, swap_identifier, swap_in, row_fields}
+use Rattle.ledger.specs.Rows.{row_at, status_of, identifier_of, stored_terms, stored_time, is_known, swap_row, swap_status, swap_identifier, swap_in, row_fields}
 use Rattle.ledger.specs.Line.{line_fields}
-use Rattle.submission.specs.Verdicts.{ledger_short, cap_wrong, ledger_wrong, values_wrong, row_wrong, submission_numbers}
+use Rattle.submission.specs.Verdicts.{ledger_short, cap_wrong, ledger_wrong, row_wrong, submission_numbers}
 use Rattle.submission.specs.Opening.{Limits, opened}
-use Rattle.submission.specs.Lent.{Lent, lent_of}
+use Rattle.submission.specs.Lent.{Lent}
 use Rattle.submission.specs.Status.{asked}
 use Rattle.submission.specs.Totals.{asked_totals}
-use Rattle.submission.specs.Valuation.{valued}
-use Rattle.submission.specs.Submission.{Submitted, submitted, swap_of, action_in, values_right, line_due_in, has_wrong_row, rules_on, submission_rules, admitting_rules, masked_terms, terms_for, place_for}
+use Rattle.submission.specs.Submission.{Submitted, submitted, swap_of, action_in, line_due_in, has_wrong_row, rules_on, submission_rules, admitting_rules, masked_terms, terms_for, place_for}
 
 -- ---- the verdict of a submission
 
@@ -54,20 +49,15 @@ pub record RightRow (l r : Bytes) : Type 0 where
   pub before : identifier_of r < next_identifier l
   pub counted : 1 ≤ total_in (status_of r) l
 
--- what the specification asks of a message that is accepted, in words: 3, 20 and 4, the message alone, and 14 to 18 and 21
+-- what the specification asks of a message that is accepted, in words: 3 and 4, the message alone, and 14 to 18
 pub record RulesAccept (limits : Limits) (lent : Lent) (m : Bytes) : Type 0 where
   pub action : Action
   pub reads : action_in m ≡ Value action
   pub header : RightHeader limits.largest lent.ledger
-  pub values : length lent.buffers.values ≡ record_start (capacity_in lent.ledger)
   pub tape : line_size ≤ length lent.buffers.tape
   pub message : verdict limits.longest m ≡ (0, 0)
   pub row : is_known lent.ledger (swap_of m) ≡ true → RightRow lent.ledger (swap_row lent.ledger (swap_of m))
   pub step : next_status action (swap_status lent.ledger (swap_of m)) ≡ no_step → ⊥
-  pub valuation :
-      is_valuation action ≡ true
-      → is_held (record_at lent.buffers.values (place_of lent.ledger (swap_of m))) ≡ true
-      → before (value valuation_timestamp m) (part (record_at lent.buffers.values (place_of lent.ledger (swap_of m))) time_at time_size) ≡ false
   pub time : repeats_time action ≡ true → value execution_timestamp m ≡ stored_time (swap_row lent.ledger (swap_of m))
   pub room : is_new action ≡ true → rows_in_use lent.ledger ≡ capacity_in lent.ledger → ⊥
   pub spare : line_due_in action lent.ledger m ≡ true → next_identifier lent.ledger ≡ identifier_limit → ⊥
@@ -77,12 +67,11 @@ AcceptedExactly = (limits : Limits) (lent : Lent) (m : Bytes) → ((submitted li
 
 -- ---- whether a line is due
 
--- PRTO and VALU have no line, MODI none where its masked terms are the stored ones, any other message always one
+-- PRTO has no line, MODI none where its masked terms are the stored ones, any other message always one
 pub record LineDue (a : Action) (l m : Bytes) : Type 0 where
   pub porting : a ≡ Prto → line_due_in a l m ≡ false
-  pub valuation : a ≡ Valu → line_due_in a l m ≡ false
   pub modification : a ≡ Modi → (line_due_in a l m ≡ false) ↔ (masked_terms (caps_in l) m ≡ stored_terms (swap_row l (swap_of m)))
-  pub others : (a ≡ Prto → ⊥) → (a ≡ Valu → ⊥) → (a ≡ Modi → ⊥) → line_due_in a l m ≡ true
+  pub others : (a ≡ Prto → ⊥) → (a ≡ Modi → ⊥) → line_due_in a l m ≡ true
 
 abbrev pub LineDueExactly : Type 0
 LineDueExactly = (a : Action) (l m : Bytes) → LineDue a l m
@@ -145,20 +134,6 @@ pub record LedgerWritten (a : Action) (l m l' : Bytes) : Type 0 where
       → ((s : ℕ) → MovesTotal a l m s → Outside (total_at s) u32 i)
       → get_or l' i 0 ≡ get_or l i 0
 
--- the record of a valuation, that of a new swap, and every other byte of the valuation table
-pub record ValuesWritten (a : Action) (l values m values' : Bytes) : Type 0 where
-  -- VALU writes the whole record at the place of the swap's row, field by field
-  pub whole : is_valuation a ≡ true → Placed 0 (record_fields m) (record_at values' (place_of l (swap_of m)))
-  -- NEWT fills its row's record with zeros
-  pub zeros : is_new a ≡ true → record_at values' (rows_in_use l) ≡ no_record
-  -- nothing else moves
-  pub long : length values' ≡ length values
-  pub others :
-      (i : ℕ)
-      → (is_valuation a ≡ true → Outside (record_start (place_of l (swap_of m))) record_size i)
-      → (is_new a ≡ true → Outside (record_start (rows_in_use l)) record_size i)
-      → get_or values' i 0 ≡ get_or values i 0
-
 -- the line at the front of the tape buffer, and every later byte; no byte where no line is due
 pub record TapeWritten (a : Action) (l t m t' : Bytes) : Type 0 where
   pub line : line_due_in a l m ≡ true → Placed 0 (line_fields a (next_identifier l) (swap_identifier l (swap_of m)) m (terms_for a l m)) t'
@@ -171,7 +146,6 @@ pub record Written (lent : Lent) (m : Bytes) (s : Submitted) : Type 0 where
   pub action : Action
   pub reads : action_in m ≡ Value action
   pub ledger : LedgerWritten action lent.ledger m s.lent.ledger
-  pub values : ValuesWritten action lent.ledger lent.buffers.values m s.lent.buffers.values
   pub tape : TapeWritten action lent.ledger lent.buffers.tape m s.lent.buffers.tape
   pub identifier : s.identifier ≡ choose (line_due_in action lent.ledger m) (next_identifier lent.ledger) 0
 
@@ -181,24 +155,6 @@ WritesUnder limits = (lent : Lent) (m : Bytes) → (submitted limits lent m).ver
 -- under any limits whose largest capacity the header's field can hold
 abbrev pub AcceptanceWrites : Type 0
 AcceptanceWrites = (limits : Limits) → limits.largest < 256 ^ u32 → WritesUnder limits
-
--- an accepted VALU takes no identifier and writes its swap's record, and no byte of ledger or tape buffer
-abbrev pub ValuationWritesUnder : Limits → Type 0
-ValuationWritesUnder limits =
-    (lent : Lent) (m : Bytes)
-    → action_in m ≡ Value Valu
-    → (submitted limits lent m).verdict ≡ 0
-    → submitted limits lent m
-    ≡ record {
-      verdict = 0;
-      element = 0;
-      identifier = 0;
-      lent = lent_of lent.ledger (with_record (place_of lent.ledger (swap_of m)) (record_of m) lent.buffers.values) lent.buffers.tape;
-    }
-
--- under any limits whose largest capacity the header's field can hold
-abbrev pub ValuationWrites : Type 0
-ValuationWrites = (limits : Limits) → limits.largest < 256 ^ u32 → ValuationWritesUnder limits
 
 -- ---- opening
 
@@ -260,29 +216,3 @@ EachTotalsExactly =
     → TotalsExactly limits l (asked_totals limits l).verdict
     × ((asked_totals limits l).verdict ≡ 0
     → (asked_totals limits l).totals ≡ total_in live l ∷ total_in closed l ∷ total_in errored l ∷ total_in ported l ∷ [])
-
--- ---- the valuation question
-
--- 3, then 20, then 9, then 14
-pub record ValuationExactly (limits : Limits) (l values u : Bytes) (v : ℕ) : Type 0 where
-  pub ledger : (v ≡ ledger_wrong) ↔ (header_right limits.largest l ≡ false)
-  pub table : (v ≡ values_wrong) ↔ ((header_right limits.largest l ≡ true) × (values_right l values ≡ false))
-  pub form : (v ≡ form_broken) ↔ ((header_right limits.largest l ≡ true) × (values_right l values ≡ true) × (has_form uti u ≡ false))
-  pub row :
-      (v ≡ row_wrong)
-      ↔ ((header_right limits.largest l ≡ true) × (values_right l values ≡ true) × (has_form uti u ≡ true)
-      × (has_wrong_row (header_of l) (swap_in l u) ≡ true))
-  pub accepted :
-      (v ≡ 0)
-      ↔ ((header_right limits.largest l ≡ true) × (values_right l values ≡ true) × (has_form uti u ≡ true)
-      × (has_wrong_row (header_of l) (swap_in l u) ≡ false))
-
--- where the swap has a row in whose record a valuation is held, the whole record; else zeros, as for an unknown swap
-abbrev pub EachValuationExactly : Type 0
-EachValuationExactly =
-    (limits : Limits) (l values u : Bytes)
-    → ValuationExactly limits l values u (valued limits l values u).verdict
-    × ((valued limits l values u).verdict ≡ 0
-    → (is_known l u ≡ true → is_held (record_at values (place_of l u)) ≡ true
-    → ((valued limits l values u).state ≡ held) × ((valued limits l values u).bytes ≡ record_at values (place_of l u)))
-    × (has_record (is_known l u) (place_of l u) values ≡ false → ((valued limits l values u).state ≡ 0) × ((valued limits l values u).bytes ≡ no_record)))

@@ -1,4 +1,4 @@
--- Specification, clauses 7.8, 12.3 and 12.6: histories, which are lists of calls on one ledger, and the tape.
+-- Specification, clauses 7.8 and 12.3: histories, which are lists of calls on one ledger, and the tape.
 use Rattle.std.specs.Prelude.{ℕ, Bool, false, List, [], ◌∷◌, ◌++◌, take, eqb}
 use Rattle.octets.specs.Bytes.{Bytes}
 use Rattle.octets.specs.Choice.{choose, both}

@@ -3,8 +3,6 @@ use Rattle.octets.specs.Bytes.{Bytes}
 
 -- the buffers beside the ledger
 pub record Buffers : Type 0 where
-  -- the valuation table
-  pub values : Bytes
   pub tape : Bytes
 
 pub record Lent : Type 0 where
@@ -12,5 +10,5 @@ pub record Lent : Type 0 where
   pub buffers : Buffers
 
 -- the buffers in the order of the operation's arguments
-abbrev pub lent_of : Bytes → Bytes → Bytes → Lent
-lent_of ledger values tape = record { ledger = ledger; buffers = record { values = values; tape = tape } }
+abbrev pub lent_of : Bytes → Bytes → Lent
+lent_of ledger tape = record { ledger = ledger; buffers = record { tape = tape } }

@@ -4,7 +4,6 @@ pub mod Lent
 pub mod Submission
 pub mod Status
 pub mod Totals
-pub mod Valuation
 pub mod Demand1
 pub mod Demand2
 pub mod History
@@ -12,5 +11,3 @@ pub mod Demand3
 pub mod Published
 pub mod Counting
 pub mod SinceOpening
-pub mod Hidden
-pub mod Held

@@ -5,17 +5,14 @@ use Rattle.octets.specs.Choice.{choose, both}
 use Rattle.octets.specs.Part.{splice}
 use Rattle.octets.specs.Same.{same_bytes}
 use Rattle.values.specs.Run.{within}
-use Rattle.dates.specs.Dates.{before}
 use Rattle.message.specs.Values.{value}
 use Rattle.actions.specs.declared.Action.{Action}
 use Rattle.actions.specs.declared.Checked.{Checked}
 use Rattle.actions.specs.declared.Checked.TheVariants.{Fault, Value}
-use Rattle.actions.specs.Actions.{is_full, is_valuation, is_new, writes_line, needs_change, repeats_time, next_status}
+use Rattle.actions.specs.Actions.{is_full, is_new, writes_line, needs_change, repeats_time, next_status}
 use Rattle.actions.specs.Statuses.{live, ported, no_step}
-use Rattle.elements.specs.Codes.{uti, execution_timestamp, asset_class, valuation_timestamp}
+use Rattle.elements.specs.Codes.{uti, execution_timestamp, asset_class}
 use Rattle.terms.specs.Terms.{terms_of}
-use Rattle.valuations.specs.Layout.{record_start}
-use Rattle.valuations.specs.Records.{record_at, held_time, values_after}
 use Rattle.rules.specs.Findings.{Rule, test, first_broken, before_rule}
 use Rattle.rules.specs.Rules.{rules_for}
 pub use Rattle.rules.specs.Rules.{action_in}
@@ -24,10 +21,10 @@ use Rattle.ledger.specs.declared.header.Header.{Header}
 use Rattle.ledger.specs.declared.search.Swap.{Swap}
 use Rattle.ledger.specs.Layout.{row_start, line_size, identifier_limit}
 use Rattle.ledger.specs.Totals.{total_of}
-use Rattle.ledger.specs.Header.{rows_in_use, next_identifier, capacity_in, caps_in, cap_for, header_right, header_of}
-use Rattle.ledger.specs.Rows.{row_at, stored_terms, place_of, is_known, swap_row, swap_status, swap_identifier, swap_time, swap_in, row_after, header_after}
+use Rattle.ledger.specs.Header.{rows_in_use, next_identifier, caps_in, cap_for, header_right, header_of}
+use Rattle.ledger.specs.Rows.{row_at, stored_terms, place_of, swap_row, swap_status, swap_identifier, swap_time, swap_in, row_after, header_after}
 use Rattle.ledger.specs.Line.{line}
-use Rattle.submission.specs.Verdicts.{ledger_wrong, values_wrong, tape_short, row_wrong, not_admitted, valuation_earlier, other_time, ledger_full, identifiers_spent}
+use Rattle.submission.specs.Verdicts.{ledger_wrong, tape_short, row_wrong, not_admitted, other_time, ledger_full, identifiers_spent}
 use Rattle.submission.specs.Opening.{Limits}
 use Rattle.submission.specs.Lent.{Lent, lent_of}
 
@@ -59,17 +56,7 @@ line_due a terms stored = choose (needs_change a) (not (same_bytes terms stored)
 unfoldable pub line_due_in : Action → Bytes → Bytes → Bool
 line_due_in a l m = line_due a (terms_for a l m) (stored_terms (swap_row l (swap_of m)))
 
--- ---- the valuation table
-
--- its length is the size of a record times the ledger's capacity (20)
-unfoldable pub values_right : Bytes → Bytes → Bool
-values_right l values = eqb (length values) (record_start (capacity_in l))
-
--- the timestamp of the valuation that is held for a swap, nothing where none is
-unfoldable pub swap_held : Bytes → Bytes → Bytes → Bytes
-swap_held l values u = choose (is_known l u) (held_time (record_at values (place_of l u))) []
-
--- ---- rules 14 to 17 and 21, by what is known of the swap and the numbers of the header
+-- ---- rules 14 to 17, by what is known of the swap and the numbers of the header
 
 -- a swap's status is 1 to 4, its identifier 1 to next less 1, and its status has a total that counts it
 unfoldable pub row_right : Header → Swap → Bool
@@ -84,10 +71,6 @@ has_wrong_row h s = both s.known (not (row_right h s))
 unfoldable pub is_not_admitted : Action → Swap → Bool
 is_not_admitted a s = eqb (next_status a s.status) no_step
 
--- a valuation's timestamp is before the held one, in byte order (21)
-unfoldable pub is_earlier : Action → Bytes → Bytes → Bool
-is_earlier a held m = both (is_valuation a) (before (value valuation_timestamp m) held)
-
 -- MODI or REVI has another execution timestamp than the row (16)
 unfoldable pub has_other_time : Action → Bytes → Bytes → Bool
 has_other_time a time m = both (repeats_time a) (not (same_bytes (value execution_timestamp m) time))
@@ -96,19 +79,18 @@ has_other_time a time m = both (repeats_time a) (not (same_bytes (value executio
 unfoldable pub finds_full : Action → Header → Bool
 finds_full a h = both (is_new a) (eqb h.rows h.capacity)
 
--- in checking order, for the message m of a swap with this execution timestamp and this held timestamp
-unfoldable pub swap_rules : Action → Header → Swap → Bytes → Bytes → Bytes → List Rule
-swap_rules a h s time held m =
+-- in checking order, for the message m of a swap with this execution timestamp
+unfoldable pub swap_rules : Action → Header → Swap → Bytes → Bytes → List Rule
+swap_rules a h s time m =
     test row_wrong (has_wrong_row h s)
     ∷ test not_admitted (is_not_admitted a s)
-    ∷ test valuation_earlier (is_earlier a held m)
     ∷ test other_time (has_other_time a time m)
     ∷ test ledger_full (finds_full a h)
     ∷ []
 
--- with what a ledger and a valuation table have of the swap that the message names
-abbrev pub rules_in : Action → Bytes → Bytes → Bytes → List Rule
-rules_in a l values m = swap_rules a (header_of l) (swap_in l (swap_of m)) (swap_time l (swap_of m)) (swap_held l values (swap_of m)) m
+-- with what a ledger has of the swap that the message names
+abbrev pub rules_in : Action → Bytes → Bytes → List Rule
+rules_in a l m = swap_rules a (header_of l) (swap_in l (swap_of m)) (swap_time l (swap_of m)) m
 
 -- ---- rule 18, by whether a line is due and the next identifier
 
@@ -122,17 +104,16 @@ identifier_rule a l m = test identifiers_spent (finds_spent (line_due_in a l m) 
 -- ---- the rules of a submission in checking order
 
 -- where 6 is broken there is no action, and nothing is judged after it
-abbrev pub after_rules : Checked → Bytes → Bytes → Bytes → List Rule
-after_rules (Fault code) l values m = []
-after_rules (Value a) l values m = rules_in a l values m ++ (identifier_rule a l m ∷ [])
+abbrev pub after_rules : Checked → Bytes → Bytes → List Rule
+after_rules (Fault code) l m = []
+after_rules (Value a) l m = rules_in a l m ++ (identifier_rule a l m ∷ [])
 
--- 3, 20 and 4, then the rules of the message alone, then 14 to 18 and 21
+-- 3 and 4, then the rules of the message alone, then 14 to 18
 unfoldable pub submission_rules : Limits → Checked → Lent → Bytes → List Rule
 submission_rules limits action lent m =
     test ledger_wrong (not (header_right limits.largest lent.ledger))
-    ∷ test values_wrong (not (values_right lent.ledger lent.buffers.values))
     ∷ test tape_short (ltb (length lent.buffers.tape) line_size)
-    ∷ (rules_for action limits.longest m ++ after_rules action lent.ledger lent.buffers.values m)
+    ∷ (rules_for action limits.longest m ++ after_rules action lent.ledger m)
 
 abbrev pub rules_on : Limits → Lent → Bytes → List Rule
 rules_on limits lent m = submission_rules limits (action_in m) lent m
@@ -171,14 +152,8 @@ tape_after due line t = choose due (splice t 0 line) t
 abbrev pub tape_for : Action → Bytes → Bytes → Bytes → Bytes
 tape_for a l t m = tape_after (line_due_in a l m) (line_for a l m) t
 
--- the valuation table, at the place of the row
-abbrev pub values_for : Action → Bytes → Bytes → Bytes → Bytes
-values_for a l values m = values_after a (place_for a l m) m values
-
 abbrev pub lent_for : Action → Lent → Bytes → Lent
-lent_for a lent m =
-    lent_of (ledger_for a lent.ledger m) (values_for a lent.ledger lent.buffers.values m)
-    (tape_for a lent.ledger lent.buffers.tape m)
+lent_for a lent m = lent_of (ledger_for a lent.ledger m) (tape_for a lent.ledger lent.buffers.tape m)
 
 -- ---- one submission
 

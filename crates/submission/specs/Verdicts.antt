@@ -14,7 +14,7 @@ cap_wrong = 2
 abbrev pub ledger_wrong : ℕ
 ledger_wrong = 3
 
--- The tape buffer is shorter than a line, even for PRTO and VALU.
+-- The tape buffer is shorter than a line, even for PRTO.
 abbrev pub tape_short : ℕ
 tape_short = 4
 
@@ -38,27 +38,16 @@ ledger_full = 17
 abbrev pub identifiers_spent : ℕ
 identifiers_spent = 18
 
--- The valuation table's length is not the size of a record times the ledger's capacity.
-abbrev pub values_wrong : ℕ
-values_wrong = 20
-
--- The valuation timestamp is before the held one, in byte order.
-abbrev pub valuation_earlier : ℕ
-valuation_earlier = 21
-
 -- ---- the numbers that each operation answers beside 0, in checking order
 
 abbrev pub opening_numbers : List ℕ
 opening_numbers = 1 ∷ 2 ∷ []
 
 abbrev pub submission_numbers : List ℕ
-submission_numbers = 3 ∷ 20 ∷ 4 ∷ 5 ∷ 6 ∷ 7 ∷ 8 ∷ 9 ∷ 10 ∷ 11 ∷ 19 ∷ 12 ∷ 13 ∷ 14 ∷ 15 ∷ 21 ∷ 16 ∷ 17 ∷ 18 ∷ []
+submission_numbers = 3 ∷ 4 ∷ 5 ∷ 6 ∷ 7 ∷ 8 ∷ 9 ∷ 10 ∷ 11 ∷ 19 ∷ 12 ∷ 13 ∷ 14 ∷ 15 ∷ 16 ∷ 17 ∷ 18 ∷ []
 
 abbrev pub question_numbers : List ℕ
 question_numbers = 3 ∷ 9 ∷ 14 ∷ []
 
 abbrev pub totals_numbers : List ℕ
 totals_numbers = 3 ∷ []
-
-abbrev pub valuation_numbers : List ℕ
-valuation_numbers = 3 ∷ 20 ∷ 9 ∷ 14 ∷ []

@@ -4,7 +4,7 @@ use Rattle.octets.specs.Bytes.{Bytes}
 use Rattle.octets.specs.Choice.{both}
 use Rattle.message.specs.Values.{value}
 use Rattle.elements.specs.declared.table.Kinds.{Kinds}
-use Rattle.elements.specs.declared.table.Kinds.TheVariants.{None, All, FullOrShort, Full, Valuation}
+use Rattle.elements.specs.declared.table.Kinds.TheVariants.{None, All, Full}
 use Rattle.elements.specs.declared.table.Public.{Public}
 use Rattle.elements.specs.declared.table.Public.TheVariants.{Hidden, Masked, Shown}
 use Rattle.elements.specs.Codes.{notional_amount}
@@ -16,9 +16,7 @@ use Rattle.terms.specs.Terms.{terms_of}
 abbrev pub is_full_only : Kinds → Bool
 is_full_only None = false
 is_full_only All = false
-is_full_only FullOrShort = false
 is_full_only Full = true
-is_full_only Valuation = false
 
 abbrev pub is_shown : Public → Bool
 is_shown Hidden = false

@@ -27,13 +27,6 @@ is_cleared v = one_of cleared_codes v
 unfoldable pub is_allocation : Bytes → Bool
 is_allocation v = either (same_bytes v (text "POST")) (either (same_bytes v (text "PREA")) (same_bytes v (text "UNAL")))
 
--- code 33: MTMA, MTMO or CCPV
-abbrev pub valuation_methods : List String
-valuation_methods = "MTMA" ∷ "MTMO" ∷ "CCPV" ∷ []
-
-unfoldable pub is_valuation_method : Bytes → Bool
-is_valuation_method v = one_of valuation_methods v
-
 -- code 18: 1 or 3
 abbrev pub price_notations : List String
 price_notations = "1" ∷ "3" ∷ []

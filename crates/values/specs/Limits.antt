@@ -19,9 +19,6 @@ currency_size = 3
 abbrev pub location_size : ℕ
 location_size = 2
 
-abbrev pub method_size : ℕ
-method_size = 4
-
 -- an LEI's characters before its two check digits, and the divisor
 abbrev pub lei_body : ℕ
 lei_body = 18

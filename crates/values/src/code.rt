@@ -1,7 +1,7 @@
 // Values that are one of a few codes.
 ghost use Rattle.std.specs.Prelude.{◌≡◌};
 ghost use Rattle.octets.specs.Same.{same_bytes};
-ghost use Rattle.values.specs.Code.{is_true, is_false, is_truth, is_cleared, is_allocation, is_valuation_method, is_price_notation, is_spread_notation, is_asset_class};
+ghost use Rattle.values.specs.Code.{is_true, is_false, is_truth, is_cleared, is_allocation, is_price_notation, is_spread_notation, is_asset_class};
 
 use octets::{one_of, same};
 
@@ -55,12 +55,6 @@ pub fn is_allocation(v: &[u8]) -> bool
         return true;
     }
     is_code(v, b"UNAL")
-}
-
-pub fn is_valuation_method(v: &[u8]) -> bool
-    ensures { result ≡ is_valuation_method v.now }
-{
-    one_of(v, b"MTMAMTMOCCPV", 4, 3)
 }
 
 pub fn is_price_notation(v: &[u8]) -> bool

@@ -7,8 +7,8 @@ mod run;
 
 pub use code::{
     is_allocation, is_asset_class, is_cleared, is_code, is_price_notation, is_spread_notation,
-    is_true, is_truth, is_valuation_method,
+    is_true, is_truth,
 };
 pub use lei::is_lei;
-pub use limits::{CURRENCY_SIZE, EVENT_SIZE, LOCATION_SIZE, METHOD_SIZE, UTI_MOST};
+pub use limits::{CURRENCY_SIZE, EVENT_SIZE, LOCATION_SIZE, UTI_MOST};
 pub use run::{Class, in_class, is_event, is_package_identifier, is_uti, is_within, run_of};

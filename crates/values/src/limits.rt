@@ -11,8 +11,6 @@ pub const CURRENCY_SIZE: usize = 3;
 
 pub const LOCATION_SIZE: usize = 2;
 
-pub const METHOD_SIZE: usize = 4;
-
 pub const LEI_BODY: usize = 18;
 
 pub const LEI_CHECK: usize = 2;

@@ -2,13 +2,13 @@
 use crate::hex;
 use repository::LONGEST_MESSAGE;
 
-pub const COUNT: usize = 20;
+pub const COUNT: usize = 18;
 
 // The place of a word among those of the forms, or their number.
 pub fn place(word: &[u8]) -> usize {
     crate::word_place(
         word,
-        b"uti event package currency location truth cleared allocation notation spread-notation class method lei price notional signed-amount date time action layout",
+        b"uti event package currency location truth cleared allocation notation spread-notation class lei price notional date time action layout",
     )
 }
 
@@ -29,14 +29,12 @@ fn has_form(place: usize, v: &[u8]) -> bool {
         8 => values::is_price_notation(v),
         9 => values::is_spread_notation(v),
         10 => values::is_asset_class(v),
-        11 => values::is_valuation_method(v),
-        12 => values::is_lei(v),
-        13 => numbers::is_price(v),
-        14 => numbers::is_notional(v),
-        15 => numbers::is_signed_amount(v),
-        16 => dates::is_date(v),
-        17 => dates::is_time(v),
-        18 => is_action(v),
+        11 => values::is_lei(v),
+        12 => numbers::is_price(v),
+        13 => numbers::is_notional(v),
+        14 => dates::is_date(v),
+        15 => dates::is_time(v),
+        16 => is_action(v),
         _ => elements::has_layout(v, LONGEST_MESSAGE),
     }
 }

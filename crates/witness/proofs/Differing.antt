@@ -10,7 +10,7 @@ use Rattle.octets.specs.Search.{all}
 use Rattle.octets.specs.Same.{same_bytes}
 use Rattle.octets.proofs.SameLaws.{same_apart}
 use Rattle.witness.specs.Histories.{left, left_ledger, right, right_ledger}
-use Rattle.witness.specs.Differences.{hidden_codes, full_places, hidden, quote, exact, valuation_codes, valued, first_record, buffer_size, Differ}
+use Rattle.witness.specs.Differences.{hidden_codes, full_places, hidden, quote, exact, buffer_size, Differ}
 use Rattle.witness.proofs.AlikeTest.{at_place}
 use Rattle.witness.proofs.Computing.{computing}
 
@@ -33,14 +33,6 @@ amounts_tested : all (λ i. not (eqb (exact left i) (exact right i))) (length fu
 unfolding computing
 amounts_tested = refl
 
-valuation_tested : all (λ k. not (same_bytes (valued left k) (valued right k))) (length valuation_codes) ≡ true
-unfolding computing
-valuation_tested = refl
-
-tables_tested : all (λ i. not (same_bytes (first_record left i) (first_record right i))) (length left) ≡ true
-unfolding computing
-tables_tested = refl
-
 buffers_tested : all (λ i. not (eqb (buffer_size left i) (buffer_size right i))) (length left) ≡ true
 unfolding computing
 buffers_tested = refl
@@ -51,8 +43,6 @@ histories_differ =
       elements = λ i k h l. bytes_differ _ _ (at_place _ (length hidden_codes) k l (at_place _ (length full_places) i h elements_tested));
       quotes = λ i h. bytes_differ _ _ (at_place _ (length full_places) i h quotes_tested);
       amounts = λ i h. numbers_apart _ _ (at_place _ (length full_places) i h amounts_tested);
-      valuation = λ k h. bytes_differ _ _ (at_place _ (length valuation_codes) k h valuation_tested);
-      tables = λ i h. bytes_differ _ _ (at_place _ (length left) i h tables_tested);
       buffers = λ i h. numbers_apart _ _ (at_place _ (length left) i h buffers_tested);
       ledgers = numbers_apart (length left_ledger) (length right_ledger) refl;
     }

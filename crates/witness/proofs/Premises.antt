@@ -37,7 +37,7 @@ judged_right = judgements limits (start limits caps right_ledger) right
 abbrev pub actions_judged : List Judgement → List (Bytes × ℕ)
 actions_judged js = map (λ j. (value action_type j.message, j.verdict)) js
 
--- each of the eight actions is accepted; the fourth message, with this action, is refused
+-- each of the seven actions is accepted; the fourth message, with this action, is refused
 abbrev pub all_actions : String → List (Bytes × ℕ)
 all_actions fourth =
     (text "NEWT", 0)
@@ -49,7 +49,6 @@ all_actions fourth =
     ∷ (text "TERM", 0)
     ∷ (text "EROR", 0)
     ∷ (text "REVI", 0)
-    ∷ (text "VALU", 0)
     ∷ (text "PRTO", 0)
     ∷ []
 

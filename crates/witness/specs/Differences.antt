@@ -2,9 +2,8 @@
 use Rattle.std.specs.Prelude.{ℕ, ◌<◌, ◌≡◌, List, [], ◌∷◌, ◌++◌, map, length, get_or}
 use Rattle.octets.specs.Bytes.{Bytes}
 use Rattle.message.specs.Values.{value}
-use Rattle.elements.specs.Codes.{uti, reporting_timestamp, settlement_date, package_identifier, package_price, notional_amount, package_spread, valuation_amount, valuation_currency, valuation_timestamp, valuation_method}
+use Rattle.elements.specs.Codes.{uti, reporting_timestamp, settlement_date, package_identifier, package_price, notional_amount, package_spread}
 use Rattle.notional.specs.Amount.{amount}
-use Rattle.valuations.specs.Records.{record_at}
 use Rattle.submission.specs.History.{Call, submit, message_of}
 use Rattle.witness.specs.Messages.{allocation, counterparty1, counterparty2}
 use Rattle.witness.specs.Histories.{left, left_ledger, right, right_ledger}
@@ -17,13 +16,9 @@ hidden_codes = uti ∷ reporting_timestamp ∷ settlement_date ∷ allocation �
 abbrev pub full_places : List ℕ
 full_places = 0 ∷ 1 ∷ 2 ∷ 4 ∷ 5 ∷ 8 ∷ []
 
--- the message at a place of a history
-abbrev pub message_at : List Call → ℕ → Bytes
-message_at h i = get_or (map message_of h) i []
-
--- a full message
+-- a full message of a history
 abbrev pub full_message : List Call → ℕ → Bytes
-full_message h i = message_at h (get_or full_places i 0)
+full_message h i = get_or (map message_of h) (get_or full_places i 0) []
 
 -- the value of a hidden element in it
 abbrev pub hidden : List Call → ℕ → ℕ → Bytes
@@ -37,23 +32,6 @@ quote h i = value package_price (full_message h i) ++ value package_spread (full
 abbrev pub exact : List Call → ℕ → ℕ
 exact h i = amount (value notional_amount (full_message h i))
 
--- the elements of the valuation that the tape does not show, its place, and the value of one of them
-abbrev pub valuation_codes : List ℕ
-valuation_codes = uti ∷ reporting_timestamp ∷ valuation_amount ∷ valuation_currency ∷ valuation_timestamp ∷ valuation_method ∷ []
-
-abbrev pub valuation_place : ℕ
-valuation_place = 9
-
-abbrev pub valued : List Call → ℕ → Bytes
-valued h k = value (get_or valuation_codes k 0) (message_at h valuation_place)
-
--- the valuation table that is lent for a call, and its first record, which both tables have
-abbrev pub table_of : Call → Bytes
-table_of (submit m b) = b.values
-
-abbrev pub first_record : List Call → ℕ → Bytes
-first_record h i = record_at (get_or (map table_of h) i []) 0
-
 -- the tape buffer that is lent for a call
 abbrev pub buffer_of : Call → Bytes
 buffer_of (submit m b) = b.tape
@@ -61,13 +39,10 @@ buffer_of (submit m b) = b.tape
 abbrev pub buffer_size : List Call → ℕ → ℕ
 buffer_size h i = length (get_or (map buffer_of h) i [])
 
--- each hidden element of each full message, its price or spread, its exact amount, each hidden element of the valuation, the bytes of each valuation
--- table, the length of each tape buffer, and the length of the ledger
+-- each hidden element of each full message, its price or spread, its exact amount, the length of each tape buffer, and the length of the ledger
 pub record Differ : Type 0 where
   pub elements : (i k : ℕ) → i < length full_places → k < length hidden_codes → hidden left i k ≡ hidden right i k → ⊥
   pub quotes : (i : ℕ) → i < length full_places → quote left i ≡ quote right i → ⊥
   pub amounts : (i : ℕ) → i < length full_places → exact left i ≡ exact right i → ⊥
-  pub valuation : (k : ℕ) → k < length valuation_codes → valued left k ≡ valued right k → ⊥
-  pub tables : (i : ℕ) → i < length left → first_record left i ≡ first_record right i → ⊥
   pub buffers : (i : ℕ) → i < length left → buffer_size left i ≡ buffer_size right i → ⊥
   pub ledgers : length left_ledger ≡ length right_ledger → ⊥

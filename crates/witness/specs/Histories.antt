@@ -1,13 +1,11 @@
 -- Two histories that differ in all that the tape does not show.
 use Rattle.std.specs.Prelude.{ℕ, ◌+◌, List, [], ◌∷◌, replicate}
 use Rattle.octets.specs.Bytes.{Bytes}
-use Rattle.valuations.specs.Layout.{record_start}
 use Rattle.ledger.specs.declared.header.Caps.{Caps}
 use Rattle.ledger.specs.Layout.{line_size, row_start}
 use Rattle.submission.specs.Opening.{Limits, document_limits}
-use Rattle.submission.specs.Lent.{Buffers}
 use Rattle.submission.specs.History.{Call, submit}
-use Rattle.witness.specs.Messages.{Hidden, new_package_swap, extended_package_swap, repeated_package_swap, revived_package_swap, new_uncleared_swap, corrected_uncleared_swap, termination, in_error, porting, Value, valuation}
+use Rattle.witness.specs.Messages.{Hidden, new_package_swap, extended_package_swap, repeated_package_swap, revived_package_swap, new_uncleared_swap, corrected_uncleared_swap, termination, in_error, porting}
 
 abbrev pub limits : Limits
 limits = document_limits
@@ -17,10 +15,6 @@ cap = 250_000_000
 
 abbrev pub caps : Caps
 caps = record { cr = cap; ir = cap; fx = cap; eq = cap; co = cap }
-
--- a valuation table for so many rows, all of one byte, and a tape buffer
-abbrev pub buffers : ℕ → ℕ → Bytes → Buffers
-buffers rows b tape = record { values = replicate (record_start rows) b; tape = tape }
 
 -- ---- the left history
 
@@ -61,31 +55,23 @@ north_grain =
       counterparty2 = "529900NORTHBANK00170";
     }
 
-abbrev pub north_value : Value
-north_value = record { amount = "-1250000.5"; currency = "USD"; time = "2026-03-05T21:00:00Z"; method = "MTMA" }
-
 -- a ledger of two rows
-abbrev pub left_rows : ℕ
-left_rows = 2
-
 abbrev pub left_ledger : Bytes
-left_ledger = replicate (row_start left_rows) 0
+left_ledger = replicate (row_start 2) 0
 
--- the third message is a quiet modification; the fourth is refused: the swap is known; the tenth values a swap of which a
--- valuation is held
+-- the third message is a quiet modification; the fourth is refused: the swap is known
 unfoldable pub left : List Call
 left =
-    submit (new_package_swap north_rates "2026-03-02T14:30:05Z" "104999999") (buffers left_rows 0 (replicate line_size 0))
-    ∷ submit (extended_package_swap north_rates "2026-03-03T09:00:01Z" "250400000") (buffers left_rows 1 (replicate line_size 1))
-    ∷ submit (repeated_package_swap north_novated "2026-03-03T09:25:00Z" "99999999999.5") (buffers left_rows 2 (replicate line_size 2))
-    ∷ submit (new_package_swap north_rates "2026-03-03T09:30:00Z" "104999999") (buffers left_rows 1 (replicate (line_size + 1) 0))
-    ∷ submit (new_uncleared_swap north_grain "2026-03-03T10:16:00Z" "997.5") (buffers left_rows 255 (replicate (line_size + 4) 32))
-    ∷ submit (corrected_uncleared_swap north_grain "2026-03-03T16:20:30Z" "9950") (buffers left_rows 49 (replicate (line_size + 2) 48))
-    ∷ submit (termination north_grain "2026-03-03T17:46:00Z") (buffers left_rows 0 (replicate line_size 77))
-    ∷ submit (in_error north_rates "2026-03-04T08:00:00Z") (buffers left_rows 32 (replicate line_size 0))
-    ∷ submit (revived_package_swap north_rates "2026-03-05T11:00:00Z" "0995000.0") (buffers left_rows 1 (replicate (line_size + 8) 5))
-    ∷ submit (valuation north_rates "2026-03-05T22:00:09Z" north_value) (buffers left_rows 1 (replicate (line_size + 6) 11))
-    ∷ submit (porting north_rates "2026-03-06T07:31:00Z") (buffers left_rows 1 (replicate line_size 3))
+    submit (new_package_swap north_rates "2026-03-02T14:30:05Z" "104999999") (record { tape = replicate line_size 0 })
+    ∷ submit (extended_package_swap north_rates "2026-03-03T09:00:01Z" "250400000") (record { tape = replicate line_size 1 })
+    ∷ submit (repeated_package_swap north_novated "2026-03-03T09:25:00Z" "99999999999.5") (record { tape = replicate line_size 2 })
+    ∷ submit (new_package_swap north_rates "2026-03-03T09:30:00Z" "104999999") (record { tape = replicate (line_size + 1) 0 })
+    ∷ submit (new_uncleared_swap north_grain "2026-03-03T10:16:00Z" "997.5") (record { tape = replicate (line_size + 4) 32 })
+    ∷ submit (corrected_uncleared_swap north_grain "2026-03-03T16:20:30Z" "9950") (record { tape = replicate (line_size + 2) 48 })
+    ∷ submit (termination north_grain "2026-03-03T17:46:00Z") (record { tape = replicate line_size 77 })
+    ∷ submit (in_error north_rates "2026-03-04T08:00:00Z") (record { tape = replicate line_size 0 })
+    ∷ submit (revived_package_swap north_rates "2026-03-05T11:00:00Z" "0995000.0") (record { tape = replicate (line_size + 8) 5 })
+    ∷ submit (porting north_rates "2026-03-06T07:31:00Z") (record { tape = replicate line_size 3 })
     ∷ []
 
 -- ---- the right history
@@ -126,29 +112,21 @@ south_grain =
       counterparty2 = "724500SOUTHGRAIN0154";
     }
 
-abbrev pub south_value : Value
-south_value = record { amount = "00"; currency = "JPY"; time = "2026-03-06T08:15:00Z"; method = "CCPV" }
-
 -- a ledger of three rows, with bytes to spare
-abbrev pub right_rows : ℕ
-right_rows = 3
-
 abbrev pub right_ledger : Bytes
-right_ledger = replicate (row_start right_rows + 56) 255
+right_ledger = replicate (row_start 3 + 56) 255
 
--- the third message is a quiet modification; the fourth is refused: the swap is not known yet; the tenth values a swap of which
--- no valuation is held
+-- the third message is a quiet modification; the fourth is refused: the swap is not known yet
 unfoldable pub right : List Call
 right =
-    submit (new_package_swap south_rates "2026-03-02T23:59:59Z" "99500000.00001") (buffers right_rows 255 (replicate (line_size + 54) 255))
-    ∷ submit (extended_package_swap south_rates "2026-03-03T12:00:00Z" "7000000000000000000") (buffers right_rows 0 (replicate (line_size + 3) 7))
-    ∷ submit (repeated_package_swap south_novated "2026-03-03T12:30:00Z" "250000001") (buffers right_rows 1 (replicate (line_size + 7) 4))
-    ∷ submit (termination south_grain "2026-03-03T17:45:10Z") (buffers right_rows 2 (replicate (line_size + 854) 43))
-    ∷ submit (new_uncleared_swap south_grain "2026-03-03T18:00:00Z" "1049.99999") (buffers right_rows 1 (replicate line_size 10))
-    ∷ submit (corrected_uncleared_swap south_grain "2026-03-03T18:05:00Z" "10499.99999") (buffers right_rows 0 (replicate (line_size + 1) 0))
-    ∷ submit (termination south_grain "2026-03-03T18:10:00Z") (buffers right_rows 1 (replicate (line_size + 33) 200))
-    ∷ submit (in_error south_rates "2026-03-05T00:00:00Z") (buffers right_rows 50 (replicate (line_size + 14) 9))
-    ∷ submit (revived_package_swap south_rates "2026-03-06T00:00:01Z" "1499999.99999") (buffers right_rows 0 (replicate line_size 66))
-    ∷ submit (valuation south_rates "2026-03-06T08:20:00Z" south_value) (buffers right_rows 50 (replicate line_size 12))
-    ∷ submit (porting south_rates "2026-03-07T12:00:00Z") (buffers right_rows 7 (replicate (line_size + 5) 1))
+    submit (new_package_swap south_rates "2026-03-02T23:59:59Z" "99500000.00001") (record { tape = replicate (line_size + 54) 255 })
+    ∷ submit (extended_package_swap south_rates "2026-03-03T12:00:00Z" "7000000000000000000") (record { tape = replicate (line_size + 3) 7 })
+    ∷ submit (repeated_package_swap south_novated "2026-03-03T12:30:00Z" "250000001") (record { tape = replicate (line_size + 7) 4 })
+    ∷ submit (termination south_grain "2026-03-03T17:45:10Z") (record { tape = replicate (line_size + 854) 43 })
+    ∷ submit (new_uncleared_swap south_grain "2026-03-03T18:00:00Z" "1049.99999") (record { tape = replicate line_size 10 })
+    ∷ submit (corrected_uncleared_swap south_grain "2026-03-03T18:05:00Z" "10499.99999") (record { tape = replicate (line_size + 1) 0 })
+    ∷ submit (termination south_grain "2026-03-03T18:10:00Z") (record { tape = replicate (line_size + 33) 200 })
+    ∷ submit (in_error south_rates "2026-03-05T00:00:00Z") (record { tape = replicate (line_size + 14) 9 })
+    ∷ submit (revived_package_swap south_rates "2026-03-06T00:00:01Z" "1499999.99999") (record { tape = replicate line_size 66 })
+    ∷ submit (porting south_rates "2026-03-07T12:00:00Z") (record { tape = replicate (line_size + 5) 1 })
     ∷ []

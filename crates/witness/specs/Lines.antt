@@ -29,7 +29,7 @@ unfoldable pub lines : List (String × String) → Bytes
 lines [] = []
 lines (l ∷ ls) = line_text l.0 l.1 ++ lines ls
 
--- the quiet modification, VALU and PRTO, the last message, have no line
+-- the quiet modification and PRTO, the last message, have no line
 unfoldable pub tape_text : Bytes
 tape_text =
     lines

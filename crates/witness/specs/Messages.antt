@@ -1,10 +1,10 @@
--- The messages of both histories: what the tape shows is written out, what it does not show is a parameter. Each has its own reporting time, a full one its
--- own amount, and a valuation its own value.
+-- The messages of both histories: what the tape shows is written out, what it does not show is a parameter. Each has its own reporting time, and a full
+-- one its own amount.
 use Rattle.std.specs.Prelude.{ℕ, List, [], ◌∷◌, ◌++◌}
 use Prim.Native.String.{String}
 use Rattle.octets.specs.Bytes.{Bytes}
 use Rattle.actions.specs.Actions.{action_type}
-use Rattle.elements.specs.Codes.{uti, event_type, event_timestamp, reporting_timestamp, execution_timestamp, effective_date, expiration_date, settlement_date, cleared, non_standardized_term, block_election, large_notional_election, package_indicator, package_identifier, package_price, price_notation, price_currency, notional_amount, notional_currency, settlement_location, asset_class, package_spread, spread_notation, spread_currency, valuation_amount, valuation_currency, valuation_timestamp, valuation_method}
+use Rattle.elements.specs.Codes.{uti, event_type, event_timestamp, reporting_timestamp, execution_timestamp, effective_date, expiration_date, settlement_date, cleared, non_standardized_term, block_election, large_notional_election, package_indicator, package_identifier, package_price, price_notation, price_currency, notional_amount, notional_currency, settlement_location, asset_class, package_spread, spread_notation, spread_currency}
 use Rattle.witness.specs.Encoding.{Element, encoded}
 
 -- elements that only this crate speaks of by name
@@ -26,13 +26,6 @@ pub record Hidden : Type 0 where
   pub quote : String
   pub counterparty1 : String
   pub counterparty2 : String
-
--- what a valuation tells of a swap's value, and the tape does not
-pub record Value : Type 0 where
-  pub amount : String
-  pub currency : String
-  pub time : String
-  pub method : String
 
 -- ---- what a message shows of itself: action, event or none, event time
 
@@ -143,17 +136,3 @@ in_error = short_message (without_event "EROR" "2026-03-04T08:00:00Z")
 -- a swap is ported to another repository
 abbrev pub porting : Hidden → String → Bytes
 porting = short_message (with_event "PRTO" "PTNG" "2026-03-06T07:30:00Z")
-
--- ---- a swap is valued
-
-unfoldable pub valuation : Hidden → String → Value → Bytes
-valuation h reported v =
-    encoded
-    ((uti, h.uti)
-    ∷ (without_event "VALU" "2026-03-05T22:00:00Z"
-    ++ ((reporting_timestamp, reported)
-    ∷ (valuation_amount, v.amount)
-    ∷ (valuation_currency, v.currency)
-    ∷ (valuation_timestamp, v.time)
-    ∷ (valuation_method, v.method)
-    ∷ [])))

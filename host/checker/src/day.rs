@@ -2,7 +2,7 @@
 
 use crate::judge::{open, submit};
 use crate::rules::Answer;
-use crate::sizes::{self, line, DAY_ROWS, LONGEST_MESSAGE, RECORD_SIZE};
+use crate::sizes::{self, line, DAY_ROWS, LONGEST_MESSAGE};
 
 /// The caps of the day's ledger (11.1).
 const CAPS: [u64; 5] = [250_000_000; 5];
@@ -53,7 +53,6 @@ fn next(input: &[u8]) -> Next<'_> {
 /// A day under way.
 struct Day {
     ledger: Vec<u8>,
-    valuations: [u8; RECORD_SIZE * DAY_ROWS],
     tape: [u8; line::SIZE],
     judged: u64,
     published: u64,
@@ -67,7 +66,6 @@ impl Day {
         assert_eq!(verdict, 0, "these rows and caps are admitted");
         Day {
             ledger,
-            valuations: [0; RECORD_SIZE * DAY_ROWS],
             tape: [0; line::SIZE],
             judged: 0,
             published: 0,
@@ -101,13 +99,7 @@ impl Day {
                 ..Answer::default()
             };
         }
-        let Day {
-            ledger,
-            valuations,
-            tape,
-            ..
-        } = self;
-        submit(ledger, valuations, tape, message)
+        submit(&mut self.ledger, &mut self.tape, message)
     }
 
     /// The last line of the report (11.7).

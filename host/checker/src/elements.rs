@@ -1,12 +1,15 @@
-//! Section 3, elements: the table of codes; and the eight actions.
+//! Section 3, elements: the table of codes; and the seven actions.
 
 use crate::forms::{
     is_allocation, is_asset_class, is_cleared, is_date, is_event, is_lei, is_notional,
-    is_package_identifier, is_price, is_price_notation, is_signed_amount, is_spread_notation,
-    is_time, is_true, is_truth, is_uti, is_valuation_method,
+    is_package_identifier, is_price, is_price_notation, is_spread_notation, is_time, is_true,
+    is_truth, is_uti,
 };
 use crate::lists::{is_currency, is_location};
 use crate::message::Values;
+
+/// Codes run from 1 to this.
+pub const LAST_CODE: u16 = 28;
 
 pub const UTI: u16 = 1;
 pub const ACTION_TYPE: u16 = 2;
@@ -36,45 +39,20 @@ pub const ASSET_CLASS: u16 = 25;
 pub const PACKAGE_SPREAD: u16 = 26;
 pub const SPREAD_NOTATION: u16 = 27;
 pub const SPREAD_CURRENCY: u16 = 28;
-pub const VALUATION_AMOUNT: u16 = 30;
-pub const VALUATION_CURRENCY: u16 = 31;
-pub const VALUATION_TIMESTAMP: u16 = 32;
-pub const VALUATION_METHOD: u16 = 33;
 
-/// The last codes that a short and a full message may have (3.1).
-const LAST_SHORT: u16 = REPORTING_TIMESTAMP;
-const LAST_FULL: u16 = SPREAD_CURRENCY;
-/// The last known code.
-pub const LAST_CODE: u16 = VALUATION_METHOD;
-/// The number of known codes (2.1).
-pub const KNOWN_CODES: u16 = LAST_FULL + (LAST_CODE - VALUATION_AMOUNT + 1);
-
-/// Is a code known (2.2)?
-pub fn is_known(code: u16) -> bool {
-    matches!(code, UTI..=LAST_FULL | VALUATION_AMOUNT..=LAST_CODE)
-}
-
-/// May a message of this kind have the element (3.1)?
-pub fn is_taken(code: u16, kind: Kind) -> bool {
-    match kind {
-        Kind::Full => code <= LAST_FULL,
-        Kind::Short => code <= LAST_SHORT,
-        Kind::Valuation => matches!(needed(code), Needed::All | Needed::Valuation),
-    }
-}
+/// The last code that a short message may have (3.1).
+pub const LAST_SHORT: u16 = 5;
 
 /// The column needed. By pair is rule 10, a condition is rule 11.
 #[derive(Clone, Copy, PartialEq, Eq)]
 pub enum Needed {
     All,
     Full,
-    Valuation,
     ByPair,
     If,
     Optional,
 }
 
-/// Of a known code.
 pub fn needed(code: u16) -> Needed {
     match code {
         UTI | ACTION_TYPE | EVENT_TIMESTAMP | REPORTING_TIMESTAMP => Needed::All,
@@ -88,9 +66,6 @@ pub fn needed(code: u16) -> Needed {
         | SPREAD_NOTATION
         | SPREAD_CURRENCY => Needed::If,
         SETTLEMENT_LOCATION => Needed::Optional,
-        VALUATION_AMOUNT | VALUATION_CURRENCY | VALUATION_TIMESTAMP | VALUATION_METHOD => {
-            Needed::Valuation
-        }
         _ => Needed::Full,
     }
 }
@@ -138,9 +113,7 @@ pub fn has_form(code: u16, v: &[u8]) -> bool {
         UTI => is_uti(v),
         ACTION_TYPE => Action::read(v).is_some(),
         EVENT_TYPE => is_event(v),
-        EVENT_TIMESTAMP | REPORTING_TIMESTAMP | EXECUTION_TIMESTAMP | VALUATION_TIMESTAMP => {
-            is_time(v)
-        }
+        EVENT_TIMESTAMP | REPORTING_TIMESTAMP | EXECUTION_TIMESTAMP => is_time(v),
         EFFECTIVE_DATE | EXPIRATION_DATE | SETTLEMENT_DATE => is_date(v),
         CLEARED => is_cleared(v),
         NON_STANDARDIZED_TERM | BLOCK_ELECTION | LARGE_NOTIONAL_ELECTION | PACKAGE_INDICATOR => {
@@ -151,26 +124,16 @@ pub fn has_form(code: u16, v: &[u8]) -> bool {
         PACKAGE_PRICE | PACKAGE_SPREAD => is_price(v),
         PRICE_NOTATION => is_price_notation(v),
         SPREAD_NOTATION => is_spread_notation(v),
-        PRICE_CURRENCY | NOTIONAL_CURRENCY | SPREAD_CURRENCY | VALUATION_CURRENCY => is_currency(v),
+        PRICE_CURRENCY | NOTIONAL_CURRENCY | SPREAD_CURRENCY => is_currency(v),
         NOTIONAL_AMOUNT => is_notional(v),
         SETTLEMENT_LOCATION => is_location(v),
         COUNTERPARTY_1 | COUNTERPARTY_2 => is_lei(v),
         ASSET_CLASS => is_asset_class(v),
-        VALUATION_AMOUNT => is_signed_amount(v),
-        VALUATION_METHOD => is_valuation_method(v),
         _ => false,
     }
 }
 
-/// The kinds of messages.
-#[derive(Clone, Copy, PartialEq, Eq)]
-pub enum Kind {
-    Full,
-    Short,
-    Valuation,
-}
-
-/// Action type, code 2: one of the eight.
+/// Action type, code 2: one of the seven.
 #[derive(Clone, Copy, Debug, PartialEq, Eq)]
 pub enum Action {
     Newt,
@@ -180,7 +143,6 @@ pub enum Action {
     Eror,
     Revi,
     Prto,
-    Valu,
 }
 
 impl Action {
@@ -194,21 +156,15 @@ impl Action {
             b"EROR" => Some(Action::Eror),
             b"REVI" => Some(Action::Revi),
             b"PRTO" => Some(Action::Prto),
-            b"VALU" => Some(Action::Valu),
             _ => None,
         }
     }
 
-    /// The kind of its messages.
-    pub fn kind(self) -> Kind {
-        match self {
-            Action::Newt | Action::Modi | Action::Corr | Action::Revi => Kind::Full,
-            Action::Term | Action::Eror | Action::Prto => Kind::Short,
-            Action::Valu => Kind::Valuation,
-        }
-    }
-
+    /// Messages of these actions are full.
     pub fn is_full(self) -> bool {
-        self.kind() == Kind::Full
+        matches!(
+            self,
+            Action::Newt | Action::Modi | Action::Corr | Action::Revi
+        )
     }
 }

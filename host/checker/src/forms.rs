@@ -150,11 +150,6 @@ pub fn asset_class_place(v: &[u8]) -> Option<usize> {
     }
 }
 
-/// Code 33: MTMA, MTMO or CCPV.
-pub fn is_valuation_method(v: &[u8]) -> bool {
-    matches!(v, b"MTMA" | b"MTMO" | b"CCPV")
-}
-
 /// Code 20: Num(25,5), no minus.
 pub fn is_notional(v: &[u8]) -> bool {
     is_num(v, 25, 5)
@@ -166,12 +161,7 @@ pub fn is_price(v: &[u8]) -> bool {
     is_num(without_minus(v), 18, 13)
 }
 
-/// Code 30: perhaps a minus, then Num(25,5). The minus of zero is allowed.
-pub fn is_signed_amount(v: &[u8]) -> bool {
-    is_num(without_minus(v), 25, 5)
-}
-
-/// A signed number without the minus it may open with.
+/// A price or spread without the minus it may open with.
 pub fn without_minus(v: &[u8]) -> &[u8] {
     v.strip_prefix(b"-").unwrap_or(v)
 }

@@ -1,5 +1,5 @@
-//! The five operations: open a ledger, submit one message, ask the status of
-//! one swap, ask for the totals, ask for the valuation of one swap.
+//! The four operations: open a ledger, submit one message, ask the status of
+//! one swap, ask for the totals.
 
 use crate::elements::{Action, ACTION_TYPE, EVENT_TIMESTAMP, EVENT_TYPE, UTI};
 use crate::forms::is_uti;
@@ -13,12 +13,11 @@ use crate::rules::{
     refusal_at, rule_10_not_a_pair, rule_11_conditional_missing, rule_12_price_too_long,
     rule_13_dates_disordered, rule_14_row_wrong, rule_15_not_admitted, rule_16_other_time,
     rule_17_ledger_full, rule_18_identifiers_spent, rule_19_price_and_spread, rule_1_ledger_short,
-    rule_20_values_wrong, rule_21_valuation_earlier, rule_2_cap_wrong, rule_3_ledger_wrong,
-    rule_4_tape_short, rule_5_layout_wrong, rule_6_action_wrong, rule_7_element_missing,
-    rule_8_element_not_taken, rule_9_form_broken, Answer, Judged,
+    rule_2_cap_wrong, rule_3_ledger_wrong, rule_4_tape_short, rule_5_layout_wrong,
+    rule_6_action_wrong, rule_7_element_missing, rule_8_element_not_taken, rule_9_form_broken,
+    Answer, Judged,
 };
-use crate::sizes::{RECORD_SIZE, TERMS, TOTALS};
-use crate::valuations::{clear_record, write_record, Record};
+use crate::sizes::{TERMS, TOTALS};
 
 /// Opens a ledger over a lent buffer. The caps are in the order CR, IR, FX,
 /// EQ, CO. Answers the verdict.
@@ -31,12 +30,9 @@ pub fn open(ledger: &mut [u8], caps: &[u64; 5]) -> u8 {
 }
 
 /// Submits one message.
-pub fn submit(ledger: &mut [u8], valuations: &mut [u8], tape: &mut [u8], message: &[u8]) -> Answer {
-    match judge(ledger, valuations, tape, message) {
-        Ok(accepted) => {
-            keep_valuation(valuations, &accepted);
-            carry_out(ledger, tape, &accepted)
-        }
+pub fn submit(ledger: &mut [u8], tape: &mut [u8], message: &[u8]) -> Answer {
+    match judge(ledger, tape, message) {
+        Ok(accepted) => carry_out(ledger, tape, &accepted),
         Err(answer) => answer,
     }
 }
@@ -51,60 +47,18 @@ pub fn status(ledger: &[u8], uti: &[u8]) -> Answer {
 
 fn ask(ledger: &[u8], uti: &[u8]) -> Judged<Answer> {
     let header = rule_3_ledger_wrong(ledger)?;
-    let answer = |(_, row): (usize, Row)| Answer {
-        status: row.status(),
-        identifier: row.identifier(),
-        ..Answer::default()
-    };
-    let found = asked_swap(ledger, &header, uti)?;
-    Ok(found.map_or(Answer::default(), answer))
-}
-
-/// Rules 9 and 14 of a question about a swap: its row and the row's place, None
-/// where it is unknown.
-fn asked_swap<'a>(
-    ledger: &'a [u8],
-    header: &Header,
-    uti: &[u8],
-) -> Judged<Option<(usize, Row<'a>)>> {
     if !is_uti(uti) {
         return Err(refusal_at(9, UTI));
     }
-    let found = find(ledger, header, uti);
-    rule_14_row_wrong(found.map(|(_, row)| row), header)?;
-    Ok(found)
-}
-
-/// Asks for the valuation of one swap (10.9): rules 3, 20, 9 and 14, then
-/// whether one is held, as the status, and its record. Where none is held, and
-/// beside a refusal, the record is zeros.
-pub fn valuation(
-    ledger: &[u8],
-    valuations: &[u8],
-    uti: &[u8],
-    record: &mut [u8; RECORD_SIZE],
-) -> Answer {
-    record.fill(0);
-    match held(ledger, valuations, uti) {
-        Ok(None) => Answer::default(),
-        Ok(Some(held)) => {
-            record.copy_from_slice(held.bytes);
-            Answer {
-                status: 1,
-                ..Answer::default()
-            }
-        }
-        Err(answer) => answer,
-    }
-}
-
-/// The swap's record where it holds a valuation.
-fn held<'a>(ledger: &[u8], valuations: &'a [u8], uti: &[u8]) -> Judged<Option<Record<'a>>> {
-    let header = rule_3_ledger_wrong(ledger)?;
-    rule_20_values_wrong(valuations, &header)?;
-    let found = asked_swap(ledger, &header, uti)?;
-    let record = found.map(|(place, _)| Record::at(valuations, place));
-    Ok(record.filter(|record| record.is_held()))
+    let Some((_, row)) = find(ledger, &header, uti) else {
+        return Ok(Answer::default());
+    };
+    rule_14_row_wrong(Some(row), &header)?;
+    Ok(Answer {
+        status: row.status(),
+        identifier: row.identifier(),
+        ..Answer::default()
+    })
 }
 
 /// Asks for the totals (10.8): rule 3, then the totals by status as stored, from
@@ -131,15 +85,9 @@ struct Accepted<'a> {
     line_due: bool,
 }
 
-/// Rules 3 to 21, in checking order. Nothing is written.
-fn judge<'a>(
-    ledger: &[u8],
-    valuations: &[u8],
-    tape: &[u8],
-    message: &'a [u8],
-) -> Judged<Accepted<'a>> {
+/// Rules 3 to 19, in checking order. Nothing is written.
+fn judge<'a>(ledger: &[u8], tape: &[u8], message: &'a [u8]) -> Judged<Accepted<'a>> {
     let header = rule_3_ledger_wrong(ledger)?;
-    rule_20_values_wrong(valuations, &header)?;
     rule_4_tape_short(tape)?;
     let values = rule_5_layout_wrong(message)?;
     let action = rule_6_action_wrong(&values)?;
@@ -155,8 +103,6 @@ fn judge<'a>(
     let row = found.map(|(_, row)| row);
     rule_14_row_wrong(row, &header)?;
     let new_status = rule_15_not_admitted(row, action)?;
-    let record = found.map(|(place, _)| Record::at(valuations, place));
-    rule_21_valuation_earlier(record, &values, action)?;
     rule_16_other_time(row, &values, action)?;
     let terms = match row {
         Some(row) if !action.is_full() => row.terms(),
@@ -177,17 +123,8 @@ fn judge<'a>(
     })
 }
 
-/// Writes what clause 8.12 says of an accepted message.
-fn keep_valuation(valuations: &mut [u8], accepted: &Accepted) {
-    match (accepted.action, accepted.row) {
-        (Action::Newt, _) => clear_record(valuations, accepted.header.rows as usize),
-        (Action::Valu, Some((place, _))) => write_record(valuations, place, &accepted.values),
-        _ => {}
-    }
-}
-
-/// Writes what sections 7 and 8 say of an accepted message, the valuation table
-/// aside. No rule is left that could refuse.
+/// Writes what sections 7 and 8 say of an accepted message. No rule is left
+/// that could refuse.
 fn carry_out(ledger: &mut [u8], tape: &mut [u8], accepted: &Accepted) -> Answer {
     let Accepted {
         header,
@@ -201,8 +138,7 @@ fn carry_out(ledger: &mut [u8], tape: &mut [u8], accepted: &Accepted) -> Answer 
     } = accepted;
     move_totals(ledger, header, *old_status, *new_status);
     if !line_due {
-        // PRTO writes the status; a MODI without a line and VALU change no
-        // byte (8.6).
+        // PRTO writes the status; a MODI without a line changes no byte (8.6).
         if let (Action::Prto, Some((place, _))) = (action, *row) {
             port_row(ledger, place, *new_status);
         }

@@ -63,11 +63,11 @@ pub fn masked_terms(values: &Values, caps: &[u64; 5]) -> [u8; TERMS] {
     terms
 }
 
-/// Is a line due (7.6)? Not for PRTO and VALU, and not for a MODI whose masked
-/// terms equal the stored ones of its swap, byte for byte.
+/// Is a line due (7.6)? Not for PRTO, and not for a MODI whose masked terms
+/// equal the stored ones of its swap, byte for byte.
 pub fn is_line_due(action: Action, row: Option<Row>, terms: &[u8; TERMS]) -> bool {
     match action {
-        Action::Prto | Action::Valu => false,
+        Action::Prto => false,
         Action::Modi => row.map(Row::terms) != Some(*terms),
         _ => true,
     }

@@ -11,7 +11,7 @@ const CURRENCIES: &[[u8; CURRENCY + 1]] =
 const LOCATIONS: &[[u8; LOCATION + 1]] =
     include_bytes!("../../../data/iso-3166-1.txt").as_chunks().0;
 
-/// Codes 19, 21, 28 and 31: one of the currencies.
+/// Codes 19, 21 and 28: one of the currencies.
 pub fn is_currency(v: &[u8]) -> bool {
     is_listed(v, CURRENCIES)
 }

@@ -2,13 +2,13 @@
 //!
 //! In the extracted text the heading "Update (UPDT)" stands one column too far
 //! right and "No Event type required" one too far left. Footnote 128 (on
-//! NEWT-UPDT) and footnote 127 (CORR, EROR, REVI and VALU have no event, "last
+//! NEWT-UPDT) and footnote 127 (CORR, EROR and REVI have no event, "last
 //! column") put them back.
 
 type Code = [u8; 4];
 
 /// Action and event, or the event's absence.
-const PAIRS: [(&Code, Option<&Code>); 32] = [
+const PAIRS: [(&Code, Option<&Code>); 31] = [
     (b"NEWT", Some(b"TRAD")),
     (b"NEWT", Some(b"NOVA")),
     (b"NEWT", Some(b"COMP")),
@@ -40,7 +40,6 @@ const PAIRS: [(&Code, Option<&Code>); 32] = [
     (b"EROR", None),
     (b"REVI", None),
     (b"PRTO", Some(b"PTNG")),
-    (b"VALU", None),
 ];
 
 /// Rule 10: are action and event, or its absence, a pair of the matrix?

@@ -1,6 +1,6 @@
 //! Section 2: the message.
 
-use crate::elements::{is_known, KNOWN_CODES, LAST_CODE};
+use crate::elements::LAST_CODE;
 use crate::sizes::{COUNT, ENTRY, LONGEST_MESSAGE, U16};
 
 /// The values of one message by element code, each a part of the message.
@@ -16,7 +16,7 @@ impl<'a> Values<'a> {
         }
         // 2.1
         let count = u16_at(message, 0)?;
-        if count > KNOWN_CODES {
+        if count > LAST_CODE {
             return None;
         }
         let mut by_code = [None; LAST_CODE as usize + 1];
@@ -26,14 +26,13 @@ impl<'a> Values<'a> {
         }
         let (mut code, mut start) = entry(message, 0)?;
         // 2.3: the first offset
-        if !is_known(code) || start != COUNT + ENTRY * usize::from(count) || start >= message.len()
-        {
+        if !is_code(code) || start != COUNT + ENTRY * usize::from(count) || start >= message.len() {
             return None;
         }
         for i in 1..usize::from(count) {
             let (next_code, next_start) = entry(message, i)?;
             // 2.2
-            if !is_known(next_code) || next_code <= code {
+            if !is_code(next_code) || next_code <= code {
                 return None;
             }
             // 2.3: the other offsets
@@ -58,6 +57,10 @@ impl<'a> Values<'a> {
     pub fn present(&self, code: u16) -> &'a [u8] {
         self.get(code).unwrap_or(&[])
     }
+}
+
+fn is_code(code: u16) -> bool {
+    (1..=LAST_CODE).contains(&code)
 }
 
 /// Entry i of the header: element code and offset.

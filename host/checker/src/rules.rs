@@ -3,10 +3,9 @@
 
 use crate::amounts::is_cap;
 use crate::elements::{
-    has_form, is_due, is_known, is_taken, needed, quoted, Action, Kind, Needed, ACTION_TYPE,
-    EFFECTIVE_DATE, EVENT_TYPE, EXECUTION_TIMESTAMP, EXPIRATION_DATE, LAST_CODE, PACKAGE_PRICE,
-    PACKAGE_SPREAD, PRICE_NOTATION, REPORTING_TIMESTAMP, SETTLEMENT_DATE, SPREAD_NOTATION,
-    VALUATION_TIMESTAMP,
+    has_form, is_due, needed, quoted, Action, Needed, ACTION_TYPE, EFFECTIVE_DATE, EVENT_TYPE,
+    EXECUTION_TIMESTAMP, EXPIRATION_DATE, LAST_CODE, LAST_SHORT, PACKAGE_PRICE, PACKAGE_SPREAD,
+    PRICE_NOTATION, REPORTING_TIMESTAMP, SETTLEMENT_DATE, SPREAD_NOTATION,
 };
 use crate::ledger::{
     is_long_enough, read_header, Header, Row, CLOSED, ERRORED, IDENTIFIER_LIMIT, LIVE, PORTED,
@@ -16,7 +15,6 @@ use crate::matrix::is_pair;
 use crate::message::Values;
 use crate::price::price_too_long;
 use crate::sizes::line;
-use crate::valuations::{has_its_length, Record};
 
 /// What an operation answers.
 #[derive(Clone, Copy, Debug, PartialEq, Eq, Default)]
@@ -55,7 +53,7 @@ fn refuse_if(fault: bool, verdict: u8) -> Judged<()> {
 
 /// Passes where no code is at fault, else names the lowest one that is.
 fn refuse_lowest(verdict: u8, at_fault: impl Fn(u16) -> bool) -> Judged<()> {
-    match (1..=LAST_CODE).find(|&code| is_known(code) && at_fault(code)) {
+    match (1..=LAST_CODE).find(|&code| at_fault(code)) {
         Some(code) => Err(refusal_at(verdict, code)),
         None => Ok(()),
     }
@@ -78,13 +76,7 @@ pub fn rule_3_ledger_wrong(ledger: &[u8]) -> Judged<Header> {
     read_header(ledger).ok_or(refusal(3))
 }
 
-/// 20. The valuation table has another length than the ledger's capacity asks
-///     for. It is judged between 3 and 4.
-pub fn rule_20_values_wrong(valuations: &[u8], header: &Header) -> Judged<()> {
-    refuse_if(!has_its_length(valuations, header), 20)
-}
-
-/// 4. The tape buffer is shorter than a line, even for PRTO and VALU.
+/// 4. The tape buffer is shorter than a line, even for PRTO.
 pub fn rule_4_tape_short(tape: &[u8]) -> Judged<()> {
     refuse_if(tape.len() < line::SIZE, 4)
 }
@@ -94,7 +86,7 @@ pub fn rule_5_layout_wrong(message: &[u8]) -> Judged<Values<'_>> {
     Values::read(message).ok_or(refusal(5))
 }
 
-/// 6. The action is missing or not one of the eight.
+/// 6. The action is missing or not one of the seven.
 pub fn rule_6_action_wrong(values: &Values) -> Judged<Action> {
     values
         .get(ACTION_TYPE)
@@ -102,23 +94,22 @@ pub fn rule_6_action_wrong(values: &Values) -> Judged<Action> {
         .ok_or(refusal_at(6, ACTION_TYPE))
 }
 
-/// 7. An element needed by all, or by messages of its kind, is missing.
+/// 7. An element needed by all, or by a full action, is missing.
 pub fn rule_7_element_missing(values: &Values, action: Action) -> Judged<()> {
     refuse_lowest(7, |code| {
         let is_needed = match needed(code) {
             Needed::All => true,
             Needed::Full => action.is_full(),
-            Needed::Valuation => action.kind() == Kind::Valuation,
             Needed::ByPair | Needed::If | Needed::Optional => false,
         };
         is_needed && values.get(code).is_none()
     })
 }
 
-/// 8. The message has an element that its kind may not have.
+/// 8. TERM, EROR or PRTO has an element above 5.
 pub fn rule_8_element_not_taken(values: &Values, action: Action) -> Judged<()> {
     refuse_lowest(8, |code| {
-        !is_taken(code, action.kind()) && values.get(code).is_some()
+        !action.is_full() && code > LAST_SHORT && values.get(code).is_some()
     })
 }
 
@@ -136,8 +127,8 @@ pub fn rule_10_not_a_pair(values: &Values) -> Judged<()> {
     refuse_if(!is_pair, 10)
 }
 
-/// 11. A conditional element is missing. (Messages that are not full have
-///     neither code 10 nor 15 after rule 8, so no condition holds.)
+/// 11. A conditional element is missing. (TERM, EROR and PRTO have neither
+///     code 10 nor 15 after rule 8, so no condition holds.)
 pub fn rule_11_conditional_missing(values: &Values) -> Judged<()> {
     refuse_lowest(11, |code| {
         is_due(code, values) && values.get(code).is_none()
@@ -200,22 +191,8 @@ pub fn status_after(action: Action, status: u8) -> Option<u8> {
         (Action::Eror, LIVE | CLOSED) => Some(ERRORED),
         (Action::Revi, ERRORED | CLOSED) => Some(LIVE),
         (Action::Prto, LIVE) => Some(PORTED),
-        (Action::Valu, LIVE) => Some(LIVE),
         _ => None,
     }
-}
-
-/// 21. A valuation comes before the one that is held, in the order of bytes. It
-///     is judged between 15 and 16.
-pub fn rule_21_valuation_earlier(
-    record: Option<Record>,
-    values: &Values,
-    action: Action,
-) -> Judged<()> {
-    let held = record.filter(|record| record.is_held());
-    let fault = action == Action::Valu
-        && held.is_some_and(|record| values.present(VALUATION_TIMESTAMP) < record.time());
-    refuse_if(fault, 21)
 }
 
 /// 16. MODI or REVI has another execution timestamp than the row.

@@ -19,7 +19,7 @@ pub const ENTRY: usize = U16 + U16;
 
 /// The longest UTI, and its field in a row.
 pub const UTI: usize = 52;
-/// An action, an event or a valuation method.
+/// An action or an event.
 pub const WORD: usize = 4;
 pub const TIME: usize = 20;
 pub const DATE: usize = 10;
@@ -32,8 +32,6 @@ pub const IDENTIFIER: usize = 12;
 pub const PRICE: usize = 20;
 /// Digits of the notional in a line.
 pub const NOTIONAL: usize = 16;
-/// The longest valuation amount: a minus, 25 digits and a point.
-pub const VALUATION_AMOUNT: usize = 1 + 25 + 1;
 /// The caps: one for each asset class.
 pub const CAPS: usize = 5;
 /// The totals: one for each status from 1 to 4.
@@ -103,19 +101,6 @@ pub mod row {
     pub const SIZE: usize = TAIL + 5;
 }
 
-/// Clause 8.11: offsets in a record of the valuation table.
-pub mod record {
-    pub const HELD: usize = 0;
-    pub const AMOUNT: usize = HELD + 1;
-    pub const CURRENCY: usize = AMOUNT + super::VALUATION_AMOUNT;
-    pub const TIME: usize = CURRENCY + super::CURRENCY;
-    pub const METHOD: usize = TIME + super::TIME;
-    pub const TAIL: usize = METHOD + super::WORD;
-}
-
-/// Bytes of a record.
-pub const RECORD_SIZE: usize = record::TAIL + 1;
-
 /// A ledger of some rows, and where the row behind them starts.
 pub const fn ledger_size(rows: usize) -> usize {
     header::SIZE + row::SIZE * rows
@@ -128,7 +113,6 @@ pub const SHORTEST_LEDGER: usize = ledger_size(1);
 #[cfg(test)]
 mod tests {
     use super::*;
-    use crate::elements::KNOWN_CODES;
     use crate::LAST_CODE;
 
     #[test]
@@ -196,24 +180,8 @@ mod tests {
     }
 
     #[test]
-    fn the_valuation_table() {
-        let record = [
-            (record::HELD, 0),
-            (record::AMOUNT, 1),
-            (record::CURRENCY, 28),
-            (record::TIME, 31),
-            (record::METHOD, 51),
-            (record::TAIL, 55),
-            (RECORD_SIZE, 56),
-        ];
-        for (sum, offset) in record {
-            assert_eq!(sum, offset);
-        }
-    }
-
-    #[test]
     fn limits() {
-        assert_eq!((COUNT, ENTRY, KNOWN_CODES, LAST_CODE), (2, 4, 32, 33));
+        assert_eq!((COUNT, ENTRY, LAST_CODE), (2, 4, 28));
         assert_eq!((LONGEST_MESSAGE, LARGEST_CAPACITY), (2_048, 100_000));
         assert_eq!((DAY_ROWS, CAPS, TOTALS, UTI), (340, 5, 4, 52));
     }

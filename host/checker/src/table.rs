@@ -10,7 +10,7 @@ use crate::elements::{
     has_form, Action, ACTION_TYPE, ALLOCATION, ASSET_CLASS, CLEARED, COUNTERPARTY_1,
     EFFECTIVE_DATE, EVENT_TIMESTAMP, EVENT_TYPE, NOTIONAL_AMOUNT, NOTIONAL_CURRENCY,
     PACKAGE_IDENTIFIER, PACKAGE_INDICATOR, PACKAGE_PRICE, PRICE_NOTATION, SETTLEMENT_LOCATION,
-    SPREAD_NOTATION, UTI, VALUATION_AMOUNT, VALUATION_METHOD,
+    SPREAD_NOTATION, UTI,
 };
 use crate::matrix::is_pair;
 use crate::message::{layout_right, value};
@@ -19,7 +19,7 @@ use crate::rules::status_after;
 use crate::sizes::NOTIONAL;
 
 /// The words that ask for the form of a value, each with a code of that form.
-const FORMS: [(&str, u16); 19] = [
+const FORMS: [(&str, u16); 17] = [
     ("uti", UTI),
     ("action", ACTION_TYPE),
     ("event", EVENT_TYPE),
@@ -37,8 +37,6 @@ const FORMS: [(&str, u16); 19] = [
     ("location", SETTLEMENT_LOCATION),
     ("lei", COUNTERPARTY_1),
     ("class", ASSET_CLASS),
-    ("signed-amount", VALUATION_AMOUNT),
-    ("method", VALUATION_METHOD),
 ];
 
 /// Each line of the table with " -> " and its answer; or the first line that

@@ -1,7 +1,7 @@
 //! Any bytes get an answer, and a refusal changes no byte.
 
 mod common;
-use checker::sizes::{header, line, row, RECORD_SIZE, SHORTEST_LEDGER, TOTALS};
+use checker::sizes::{header, line, row, SHORTEST_LEDGER, TOTALS};
 use checker::*;
 use common::*;
 
@@ -62,19 +62,16 @@ fn some_messages() -> Vec<Elements> {
         term(),
         short("EROR", None),
         prto(),
-        valu(),
-        with(valu(), 32, "2019-05-02T23:59:58Z"),
-        with(newt(), 33, "MTMO"),
     ]
 }
 
-/// Is a line due for a message that is accepted? Not for PRTO or VALU, nor for a MODI
+/// Is a line due for a message that is accepted? Not for PRTO, nor for a MODI
 /// that would leave the stored terms alone if it were a CORR. The first row is
 /// the swap's.
 fn is_line_due(before: &Book, message: &[u8]) -> bool {
     let terms = |book: &Book| book.row(0)[row::TERMS..row::TAIL].to_vec();
     match value(message, 2) {
-        Some(b"PRTO" | b"VALU") => false,
+        Some(b"PRTO") => false,
         Some(b"MODI") => {
             let element = |code| Some((code, value(message, code)?.to_vec()));
             let modi: Elements = (1..=LAST_CODE).filter_map(element).collect();
@@ -86,26 +83,6 @@ fn is_line_due(before: &Book, message: &[u8]) -> bool {
     }
 }
 
-/// The valuation question about the swap of the first row, where the status
-/// question answers this verdict.
-fn of_valuation(book: &Book, verdict: u8) {
-    let has_its_length =
-        || book.valuations.len() == RECORD_SIZE * book.u32_at(header::CAPACITY) as usize;
-    let verdict = if verdict == 3 || has_its_length() {
-        verdict
-    } else {
-        20
-    };
-    let (answer, record) = asked(&book.ledger, &book.valuations, UTI.as_bytes());
-    assert_eq!((answer.verdict, answer.element), (verdict, 0));
-    let due = match answer.status {
-        0 => &[0; RECORD_SIZE],
-        _ => book.record(0),
-    };
-    assert_eq!(record, due);
-    assert!(answer.status == 0 || (verdict, record[0]) == (0, 1));
-}
-
 /// The totals after a swap went from one status to another; unknown has none.
 fn moved(mut totals: [u32; TOTALS], old: u8, new: u8) -> [u32; TOTALS] {
     for status in 1..=4 {
@@ -114,22 +91,6 @@ fn moved(mut totals: [u32; TOTALS], old: u8, new: u8) -> [u32; TOTALS] {
         *total -= u32::from(status == old);
     }
     totals
-}
-
-/// Only NEWT and VALU write the valuation table, and each writes one record: the
-/// one that the question answers for the swap, or none is held.
-fn only_its_record(before: &Book, after: &Book, message: &[u8]) {
-    let (uti, action) = (value(message, 1).unwrap(), value(message, 2).unwrap());
-    let (answer, record) = asked(&after.ledger, &after.valuations, uti);
-    let place = match action {
-        b"NEWT" => before.u32_at(header::ROWS) as usize,
-        b"VALU" => 0,
-        _ => return assert_eq!(before.valuations, after.valuations),
-    };
-    assert_eq!(answer.status, u8::from(action == b"VALU"));
-    let mut due = before.clone();
-    due.record_mut(place).copy_from_slice(&record);
-    assert_eq!(after.valuations, due.valuations);
 }
 
 /// The rows in use by status.
@@ -147,7 +108,6 @@ fn leaves_take_any_bytes() {
         let cap = numbers.next() >> numbers.below(64);
         let _ = (is_date(&v), is_time(&v), is_lei(&v), is_uti(&v));
         let _ = (is_currency(&v), is_location(&v));
-        assert!(is_signed_amount(&v) || !is_notional(&v));
         let _ = (price_too_long(&v, b"4"), price_too_long(&v, &v));
         let _ = (is_cap(cap), is_pair(&v, Some(&v)));
         assert_eq!(is_notional(&v), masked(&v, cap).is_some());
@@ -172,15 +132,12 @@ fn messages_of_any_bytes() {
 #[test]
 fn changed_messages_and_ledgers() {
     let mut numbers = Numbers(3);
-    let mut verdicts = [0; 22];
+    let mut verdicts = [0; 20];
     let mut modi_lines = [0; 2];
     let mut wrong_totals = 0;
     for round in 0..60_000 {
         let mut book = Book::new(1 + numbers.below(3));
         book.accept(&newt());
-        if numbers.below(2) == 0 {
-            book.accept(&valu());
-        }
         if numbers.below(2) == 0 {
             book.accept(&term());
         }
@@ -198,13 +155,9 @@ fn changed_messages_and_ledgers() {
         if numbers.below(20) == 0 {
             book.tape.truncate(numbers.below(line::SIZE + SPARE));
         }
-        if numbers.below(20) == 0 {
-            book.valuations.truncate(numbers.below(RECORD_SIZE));
-        }
         let messages = some_messages();
         let mut m = messages[numbers.below(messages.len())].clone();
         let code = 1 + numbers.below(LAST_CODE.into()) as u16;
-        let code = if code == 29 { 1 } else { code };
         match numbers.below(4) {
             0 => drop(m.remove(&code)),
             1 => {
@@ -244,16 +197,14 @@ fn changed_messages_and_ledgers() {
             let old = status(&before.ledger, uti).status;
             let due = moved(before.totals(), old, asked.status);
             assert_eq!(totals(&book.ledger), (0, due));
-            only_its_record(&before, &book, &bytes);
             if value(&bytes, 2) == Some(b"MODI") {
                 modi_lines[usize::from(is_due)] += 1;
                 assert!(is_due || book == before);
             }
         }
-        let of_status = status(&book.ledger, UTI.as_bytes());
-        assert!(matches!(of_status.verdict, 0 | 3 | 14));
-        of_valuation(&book, of_status.verdict);
-        let due = if of_status.verdict == 3 {
+        let asked = status(&book.ledger, UTI.as_bytes());
+        assert!(matches!(asked.verdict, 0 | 3 | 14));
+        let due = if asked.verdict == 3 {
             (3, [0; TOTALS])
         } else {
             (0, book.totals())
@@ -262,7 +213,7 @@ fn changed_messages_and_ledgers() {
         wrong_totals += u32::from(due.0 == 0 && due.1 != count(&book));
     }
     assert!(wrong_totals > 0);
-    for verdict in [0, 3, 4, 5, 6, 7, 8, 9, 10, 11, 14, 15, 17, 19, 20, 21] {
+    for verdict in [0, 3, 4, 5, 6, 7, 8, 9, 10, 11, 14, 15, 17, 19] {
         assert!(verdicts[verdict] > 0, "{verdict}: {verdicts:?}");
     }
     assert!(modi_lines.iter().all(|&n| n > 0), "{modi_lines:?}");
@@ -274,16 +225,12 @@ fn ledgers_of_any_bytes() {
     let m = laid_out(&newt());
     for _ in 0..50_000 {
         let mut ledger = numbers.bytes(600);
-        let mut valuations = numbers.bytes(200);
         let mut tape = numbers.bytes(200);
-        let before = (ledger.clone(), valuations.clone(), tape.clone());
-        let answer = submit(&mut ledger, &mut valuations, &mut tape, &m);
-        assert_eq!(answer.verdict, 3);
+        let before = (ledger.clone(), tape.clone());
+        assert_eq!(submit(&mut ledger, &mut tape, &m).verdict, 3);
         assert_eq!(status(&ledger, UTI.as_bytes()).verdict, 3);
         assert_eq!(totals(&ledger), (3, [0; TOTALS]));
-        let nothing = (refused(3, 0), [0; RECORD_SIZE]);
-        assert_eq!(asked(&ledger, &valuations, UTI.as_bytes()), nothing);
-        assert!((ledger.clone(), valuations, tape) == before);
+        assert!((ledger.clone(), tape) == before);
         let caps = [(); 5].map(|()| numbers.next() >> numbers.below(64));
         let verdict = open(&mut ledger, &caps);
         assert!(matches!(

@@ -76,9 +76,6 @@ fn small_day() -> Vec<(Vec<u8>, &'static str)> {
         (of_1(modi_as_newt()), "12 0 0 0"),
         (of_1(modi()), "13 0 0 4"),
         (of_1(modi()), "14 0 0 0"),
-        (of_1(valu()), "15 0 0 0"),
-        (of_1(with(valu(), 32, "2019-05-02T23:59:58Z")), "16 21 0 0"),
-        (laid_out(&valu()), "17 15 0 0"),
     ]
 }
 
@@ -90,7 +87,7 @@ fn a_day_cut_at_every_byte() {
         .flat_map(|(message, _)| framed(message))
         .collect();
     // after so many messages, so many lines are on the tape
-    let published = [0, 0, 1, 1, 2, 2, 2, 2, 2, 3, 3, 3, 3, 4, 4, 4, 4, 4];
+    let published = [0, 0, 1, 1, 2, 2, 2, 2, 2, 3, 3, 3, 3, 4, 4];
     let (mut judged, mut end) = (0, 0);
     for cut in 0..=bytes.len() {
         if judged < day.len() && cut == end + 2 + day[judged].0.len() {
@@ -103,7 +100,7 @@ fn a_day_cut_at_every_byte() {
         due.push(&last);
         assert_eq!(text(&bytes[..cut]), lines(&due), "cut at {cut}");
     }
-    assert_eq!((judged, end), (17, bytes.len()));
+    assert_eq!((judged, end), (14, bytes.len()));
 }
 
 #[test]
@@ -136,16 +133,13 @@ fn a_swap_too_many_finds_no_row() {
         day.extend(framed(&newt_of(number)));
         due += &format!("{number} 0 0 {number}\n");
     }
-    let (more, last, valued) = (DAY_ROWS + 1, DAY_ROWS + 2, DAY_ROWS + 3);
+    let (more, last) = (DAY_ROWS + 1, DAY_ROWS + 2);
     day.extend(framed(&newt_of(more)));
     due += &format!("{more} 17 0 0\n");
     assert_eq!(text(&day), format!("{due}end {more} {DAY_ROWS}\n"));
     assert!(text(&day).ends_with("340 0 0 340\n341 17 0 0\nend 341 340\n"));
-    // A swap that has a row goes on, and there is a record for each row.
+    // A swap that has a row goes on.
     day.extend(framed(&laid_out(&with(modi(), 1, &swap(DAY_ROWS)))));
     due += &format!("{last} 0 0 {more}\n");
     assert_eq!(text(&day), format!("{due}end {last} {more}\n"));
-    day.extend(framed(&laid_out(&with(valu(), 1, &swap(DAY_ROWS)))));
-    due += &format!("{valued} 0 0 0\n");
-    assert_eq!(text(&day), format!("{due}end {valued} {more}\n"));
 }

@@ -2,7 +2,7 @@
 
 mod common;
 use checker::sizes::{COUNT, ENTRY, LONGEST_MESSAGE};
-use checker::{layout_right, value, KNOWN_CODES, LAST_CODE};
+use checker::{layout_right, value, LAST_CODE};
 use common::*;
 
 fn with_header(entries: &[(u16, u16)], values: &[u8]) -> Vec<u8> {
@@ -13,12 +13,6 @@ fn with_header(entries: &[(u16, u16)], values: &[u8]) -> Vec<u8> {
     }
     m.extend(values);
     m
-}
-
-/// A message with every known code: 1 to 28 and 30 to 33.
-fn every_code() -> Elements {
-    let codes = (1..=28).chain(30..=33);
-    codes.map(|code| (code, vec![b'x'])).collect()
 }
 
 #[test]
@@ -32,21 +26,12 @@ fn right_layouts() {
     for code in [0, 2, LAST_CODE - 1, LAST_CODE + 1, u16::MAX] {
         assert_eq!(value(&m, code), None);
     }
-    let all = every_code();
+    let all: Elements = (1..=LAST_CODE).map(|code| (code, vec![b'x'])).collect();
     assert!(layout_right(&laid_out(&all)));
-    let count = usize::from(KNOWN_CODES);
+    let count = usize::from(LAST_CODE);
     assert_eq!(laid_out(&all).len(), COUNT + ENTRY * count + count);
-    // n may reach 32: 2 bytes, 32 entries of 4 and 32 values of one byte
-    assert_eq!((count, laid_out(&all).len()), (32, 162));
-    for code in all.into_keys() {
-        let m = with_header(&[(code, 6)], b"a");
-        assert_eq!(value(&m, code), Some(&b"a"[..]));
-    }
-    // from code to code past the one that is not known
-    let m = with_header(&[(28, 10), (30, 11)], b"ab");
-    assert_eq!(value(&m, 28), Some(&b"a"[..]));
-    assert_eq!(value(&m, 29), None);
-    assert_eq!(value(&m, 30), Some(&b"b"[..]));
+    // n may reach 28: 2 bytes, 28 entries of 4 and 28 values of one byte
+    assert_eq!((count, laid_out(&all).len()), (28, 142));
 }
 
 #[test]
@@ -62,15 +47,11 @@ fn wrong_layouts() {
         vec![],
         vec![0],
         vec![0, 0, 0],
-        vec![KNOWN_CODES as u8 + 1, 0],
+        vec![LAST_CODE as u8 + 1, 0],
         vec![0xFF; 200],
         with_header(&[], b"a"),
-        with_header(&[(1, 6)], b""),   // offset not below the length
-        with_header(&[(0, 6)], b"a"),  // code 0
-        with_header(&[(29, 6)], b"a"), // code 29
-        with_header(&[(28, 10), (29, 11)], b"ab"),
-        with_header(&[(29, 10), (30, 11)], b"ab"),
-        with_header(&[(34, 6)], b"a"),
+        with_header(&[(1, 6)], b""),  // offset not below the length
+        with_header(&[(0, 6)], b"a"), // code 0
         with_header(&[(LAST_CODE + 1, 6)], b"a"),
         with_header(&[(1, 7)], b"abc"), // first offset too high
         with_header(&[(1, 5)], b"abc"), // first offset too low
@@ -92,17 +73,8 @@ fn wrong_layouts() {
         assert!(!layout_right(&m[..length]));
     }
     // an entry too many
-    let mut many = every_code();
-    set(&mut many, 34, "x");
+    let many: Elements = (1..=LAST_CODE + 1).map(|code| (code, vec![b'x'])).collect();
     assert!(!layout_right(&laid_out(&many)));
-    // 32 entries, one of them of code 29
-    for left_out in [1, 28, 30, 33] {
-        let mut other = without(every_code(), left_out);
-        assert!(layout_right(&laid_out(&other)));
-        set(&mut other, 29, "x");
-        assert_eq!(other.len(), 32);
-        assert!(!layout_right(&laid_out(&other)));
-    }
 }
 
 #[test]

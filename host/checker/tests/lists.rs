@@ -2,7 +2,7 @@
 //! not, and verdict 9.
 
 mod common;
-use checker::sizes::{line, record, row, CURRENCY, LOCATION};
+use checker::sizes::{line, row, CURRENCY, LOCATION};
 use checker::{is_currency, is_location};
 use common::*;
 use std::fs;
@@ -182,7 +182,7 @@ fn locations() {
 }
 
 #[test]
-fn every_currency_is_accepted_and_shown_or_held() {
+fn every_currency_is_accepted_and_shown() {
     let mut book = Book::new(1);
     book.accept(&newt());
     for code in CURRENCIES.codes() {
@@ -192,11 +192,6 @@ fn every_currency_is_accepted_and_shown_or_held() {
         assert_eq!(&book.line()[line::PRICE_CURRENCY..line::CLASS], code);
         book.accept(&with(with_spread(modi(), "5", "1"), 28, &code));
         assert_eq!(&book.line()[line::SPREAD_CURRENCY..line::NEWLINE], code);
-        book.accept(&with(valu(), 31, &code));
-        assert_eq!(
-            book.record(0)[record::CURRENCY..record::TIME],
-            *code.as_bytes()
-        );
     }
 }
 
@@ -253,10 +248,6 @@ fn verdict_9_names_the_currency() {
         for m in with_currency(code, "CNY") {
             Book::new(1).accept(&m);
         }
-    }
-    // that of a valuation
-    for bad in ["CNH", "ZZZ", "HRK", "XAD", "usd", "US", "EURO"] {
-        book.refuse(&with(valu(), 31, bad), 9, 31);
     }
     // the other full actions
     for m in [modi(), full("CORR", None), full("REVI", None)] {

@@ -8,7 +8,7 @@ const EVENTS: [&str; 12] = [
 
 /// The table's rows: a mark for each event in the order above, then one for
 /// "No Event type required".
-const ROWS: [(&str, &str); 8] = [
+const ROWS: [(&str, &str); 7] = [
     ("NEWT", "xxx.xxxx.xxx."),
     ("MODI", "xxx..xx.x.xx."),
     ("CORR", "............x"),
@@ -16,7 +16,6 @@ const ROWS: [(&str, &str); 8] = [
     ("EROR", "............x"),
     ("REVI", "............x"),
     ("PRTO", ".........x..."),
-    ("VALU", "............x"),
 ];
 
 #[test]
@@ -33,7 +32,7 @@ fn the_whole_table() {
             pairs += usize::from(mark == b'x');
         }
     }
-    assert_eq!(pairs, 32);
+    assert_eq!(pairs, 31);
 }
 
 #[test]
@@ -43,7 +42,7 @@ fn pairs_named_in_the_specification() {
     assert!(is_pair(b"TERM", Some(b"ETRM")));
     assert!(is_pair(b"PRTO", Some(b"PTNG")));
     assert!(!is_pair(b"NEWT", Some(b"ETRM")));
-    for action in [b"CORR", b"EROR", b"REVI", b"VALU"] {
+    for action in [b"CORR", b"EROR", b"REVI"] {
         assert!(is_pair(action, None));
         assert!(EVENTS.iter().all(|e| !is_pair(action, Some(e.as_bytes()))));
     }
@@ -87,6 +86,7 @@ fn codes_are_matched_byte_for_byte() {
     assert!(!is_pair(b"NEWT", Some(b"TRADE")));
     assert!(!is_pair(b"NEWT ", Some(b"TRAD")));
     assert!(!is_pair(b"", None));
-    // An action of the CFTC that is not among the eight.
+    // Actions of the CFTC that are not among the seven.
+    assert!(!is_pair(b"VALU", None));
     assert!(!is_pair(b"MARU", None));
 }

@@ -27,7 +27,7 @@ fn revi() -> Elements {
 }
 
 /// One message of each action, and a MODI that shows what the NEWT shows.
-fn each_action() -> [Elements; 9] {
+fn each_action() -> [Elements; 8] {
     [
         newt(),
         modi(),
@@ -37,7 +37,6 @@ fn each_action() -> [Elements; 9] {
         eror(),
         revi(),
         prto(),
-        valu(),
     ]
 }
 
@@ -114,7 +113,6 @@ fn each_step() {
     after(&live, modi(), [2, 1, 1, 1]);
     after(&live, modi_as_newt(), [2, 1, 1, 1]);
     after(&live, corr(), [2, 1, 1, 1]);
-    after(&live, valu(), [2, 1, 1, 1]);
     after(&live, eror(), [1, 1, 2, 1]);
     after(&live, prto(), [1, 1, 1, 2]);
     let closed = after(&live, term(), [1, 2, 1, 1]);
@@ -214,7 +212,6 @@ fn a_refusal_moves_no_total() {
     totals_are(&book, [1, 0, 0, 0]);
     // what writes no line passes; PRTO changes the status
     book.accept(&modi_as_newt());
-    book.accept(&valu());
     totals_are(&book, [1, 0, 0, 0]);
     book.accept(&prto());
     totals_are(&book, [0, 0, 0, 1]);

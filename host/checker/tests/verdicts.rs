@@ -2,7 +2,7 @@
 
 mod common;
 use checker::sizes::{self, header, line, row, LARGEST_CAPACITY, SHORTEST_LEDGER, TOTALS, U64};
-use checker::{open, status, submit, totals, Answer, KNOWN_CODES, LAST_CODE};
+use checker::{open, status, submit, totals, Answer, LAST_CODE};
 use common::*;
 
 #[test]
@@ -82,9 +82,8 @@ fn capacity_is_at_most_100_000() {
 /// Submits and asks both questions; all answer 3.
 fn breaks_the_ledger(mut book: Book) {
     assert_eq!(book.submit(&newt()), refused(3, 0));
-    // 3 comes before 20, 4 and 5
-    let answer = submit(&mut book.ledger, &mut [], &mut [], &[]);
-    assert_eq!(answer, refused(3, 0));
+    // 3 comes before 4 and 5
+    assert_eq!(submit(&mut book.ledger, &mut [], &[]), refused(3, 0));
     assert_eq!(status(&book.ledger, UTI.as_bytes()), refused(3, 0));
     // and before 9
     assert_eq!(status(&book.ledger, b""), refused(3, 0));
@@ -164,10 +163,9 @@ fn verdict_4_tape_short() {
     assert_eq!(book.submit_bytes(&[]), refused(4, 0));
     book.tape.push(0);
     book.accept(&newt());
-    // even for PRTO and VALU
+    // even for PRTO
     book.tape.truncate(line::SIZE - 1);
     assert_eq!(book.submit(&prto()), refused(4, 0));
-    assert_eq!(book.submit(&valu()), refused(4, 0));
 }
 
 #[test]
@@ -182,7 +180,7 @@ fn verdict_6_action_wrong() {
     let mut book = Book::new(1);
     assert_eq!(book.submit_bytes(&[0, 0]), refused(6, 2));
     book.refuse(&without(newt(), 2), 6, 2);
-    for bad in ["term", "NEWt", "NEW", "NEWT ", "valu", "MARU", "XXXX"] {
+    for bad in ["term", "NEWt", "NEW", "NEWT ", "VALU", "MARU", "XXXX"] {
         book.refuse(&with(newt(), 2, bad), 6, 2);
     }
     // 6 comes before 7
@@ -230,15 +228,14 @@ fn verdict_8_element_not_taken() {
     let mut book = Book::new(1);
     book.accept(&newt());
     let all = with(with_package(full("TERM", Some("ETRM")), "1", "1"), 22, "US");
-    let mut all = with_spread(with(all, 11, "True"), "1", "1");
-    all.extend(valu());
-    assert_eq!(all.len(), usize::from(KNOWN_CODES));
+    let all = with_spread(with(all, 11, "True"), "1", "1");
+    assert_eq!(all.len(), usize::from(LAST_CODE));
     for (action, event) in [
         ("TERM", Some("ETRM")),
         ("EROR", None),
         ("PRTO", Some("PTNG")),
     ] {
-        for code in (6..=28).chain(30..=33) {
+        for code in 6..=LAST_CODE {
             let mut m = short(action, event);
             m.insert(code, all[&code].clone());
             book.refuse(&m, 8, code as u8);
@@ -573,7 +570,6 @@ fn verdict_14_row_wrong() {
         full("REVI", None),
         term(),
         prto(),
-        valu(),
     ];
     let asks_14 = |book: &mut Book| {
         for m in &messages {
@@ -616,7 +612,7 @@ fn verdict_14_row_wrong() {
 
 #[test]
 fn verdict_15_not_admitted() {
-    let actions: [(&str, Elements); 8] = [
+    let actions: [(&str, Elements); 7] = [
         ("NEWT", newt()),
         ("MODI", modi()),
         ("CORR", full("CORR", None)),
@@ -624,10 +620,9 @@ fn verdict_15_not_admitted() {
         ("EROR", short("EROR", None)),
         ("REVI", full("REVI", None)),
         ("PRTO", prto()),
-        ("VALU", valu()),
     ];
     // the status after each action, or 15, from unknown, live, closed, errored, ported
-    let steps: [[u8; 5]; 8] = [
+    let steps: [[u8; 5]; 7] = [
         [1, 15, 15, 15, 15],
         [15, 1, 15, 15, 15],
         [15, 1, 2, 15, 15],
@@ -635,7 +630,6 @@ fn verdict_15_not_admitted() {
         [15, 3, 3, 15, 15],
         [15, 15, 1, 1, 15],
         [15, 4, 15, 15, 15],
-        [15, 1, 15, 15, 15],
     ];
     for ((action, m), row) in actions.iter().zip(steps) {
         for (before, after) in row.into_iter().enumerate() {
@@ -710,9 +704,8 @@ fn verdict_18_identifiers_spent() {
     }
     // 16 comes before 18
     book.refuse(&with(modi(), 6, "2024-02-29T10:15:31Z"), 16, 0);
-    // PRTO and VALU write no line, nor does a MODI that shows nothing new
+    // PRTO writes no line, nor does a MODI that shows nothing new
     assert_eq!(book.accept(&modi_as_newt()), 0);
-    assert_eq!(book.accept(&valu()), 0);
     assert_eq!(book.accept(&prto()), 0);
 }
 

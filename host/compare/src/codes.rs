@@ -69,12 +69,10 @@ mod tests {
     }
 
     #[test]
-    fn five_elements_have_a_list() {
+    fn four_elements_have_a_list() {
         let first = |element| Some((element, list_of(element)?[0]));
         let found: Vec<(u8, &str)> = codes().filter_map(first).collect();
-        let currencies = [19, 21, 28, 31].map(|element| (element, "AED"));
-        let [price, notional, spread, valuation] = currencies;
-        assert_eq!(found, [price, notional, (22, "AD"), spread, valuation]);
+        assert_eq!(found, [(19, "AED"), (21, "AED"), (22, "AD"), (28, "AED")]);
     }
 
     #[test]

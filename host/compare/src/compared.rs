@@ -2,42 +2,27 @@
 
 use crate::guarded::{Guarded, GuardedTotals};
 use crate::judge::{Judge, BOTH};
-use crate::layout::{self, values_size_beside, Caps, Record, HEADER_SIZE, LINE_SIZE};
-use crate::layout::{RECORD_SIZE, ROWS_IN_HEADER, TOTALS};
-use crate::lists::UTI;
-use crate::message::{described, Message};
+use crate::layout::{self, Caps, HEADER_SIZE, LINE_SIZE, ROWS_IN_HEADER, TOTALS};
+use crate::message::described;
 use crate::order::NAMING_AN_ELEMENT;
 use crate::tally::Tally;
-use crate::valuations;
-use sdr::{Answer, Totals, Valuation, ACCEPTED, LEDGER_WRONG, UNKNOWN, VALUES_WRONG};
+use sdr::{Answer, Totals, ACCEPTED};
 use std::fmt;
-
-/// What a ledger or a valuation table holds that nothing was written into.
-const OLD: u8 = 0xee;
 
 /// What one judge is lent.
 struct Side {
     judge: &'static dyn Judge,
     ledger: Guarded,
-    values: Guarded,
     tape: Guarded,
     input: Guarded,
     totals: GuardedTotals,
-    record: Guarded,
 }
 
-/// What the buffers of the first side held before a call.
-#[derive(Default)]
-struct Before {
-    ledger: Vec<u8>,
-    values: Vec<u8>,
-    tape: Vec<u8>,
-}
-
-/// A ledger, a valuation table and a tape buffer, one copy for each judge.
+/// A ledger and a tape buffer, one copy for each judge.
 pub struct Compared {
     sides: Vec<Side>,
-    before: Before,
+    ledger_before: Vec<u8>,
+    tape_before: Vec<u8>,
     /// Counts of what was answered.
     pub tally: Tally,
 }
@@ -80,47 +65,33 @@ impl Compared {
         let side = |(judge, pattern): (&&'static dyn Judge, u8)| Side {
             judge: *judge,
             ledger: Guarded::new(pattern),
-            values: Guarded::new(pattern),
             tape: Guarded::new(pattern),
             input: Guarded::new(pattern),
             totals: GuardedTotals::new(pattern),
-            record: Guarded::new(pattern),
         };
         Compared {
             sides: judges.iter().zip(patterns).map(side).collect(),
-            before: Before::default(),
+            ledger_before: Vec::new(),
+            tape_before: Vec::new(),
             tally: Tally::default(),
         }
     }
 
-    /// A ledger just opened, with so many rows, a valuation table that fits it,
-    /// and a tape buffer of a line, for the core and the checker. None was empty
-    /// before.
+    /// A ledger just opened, with so many rows, and a tape buffer of a line,
+    /// for the core and the checker. Neither was empty before.
     pub fn opened(rows: usize, caps: &Caps) -> Self {
         let mut compared = Compared::new();
-        compared.set_ledger(&vec![OLD; layout::ledger_size(rows)]);
+        compared.set_ledger(&vec![0xee; layout::ledger_size(rows)]);
         compared.set_tape(&[b'x'; LINE_SIZE]);
         assert_eq!(compared.open(caps).verdict, ACCEPTED);
         compared
     }
 
-    /// Gives every side this ledger. A valuation table that does not fit it is
-    /// replaced by one that does, without a valuation.
+    /// Gives every side this ledger.
     pub fn set_ledger(&mut self, ledger: &[u8]) {
         self.sides
             .iter_mut()
             .for_each(|side| side.ledger.set(ledger));
-        let size = values_size_beside(ledger.len());
-        if self.values().len() != size {
-            self.set_values(&vec![OLD; size]);
-        }
-    }
-
-    /// Gives every side this valuation table.
-    pub fn set_values(&mut self, values: &[u8]) {
-        self.sides
-            .iter_mut()
-            .for_each(|side| side.values.set(values));
     }
 
     /// Gives every side this tape buffer.
@@ -131,11 +102,6 @@ impl Compared {
     /// The ledger as the last call left it.
     pub fn ledger(&self) -> &[u8] {
         self.sides[0].ledger.bytes()
-    }
-
-    /// The valuation table as the last call left it.
-    pub fn values(&self) -> &[u8] {
-        self.sides[0].values.bytes()
     }
 
     /// The tape buffer as the last call left it.
@@ -163,11 +129,6 @@ impl Compared {
         agreed(self.try_totals())
     }
 
-    /// Asks for a valuation; panics on a mismatch.
-    pub fn valuation(&mut self, uti: &[u8]) -> Valuation {
-        agreed(self.try_valuation(uti))
-    }
-
     /// Opens the ledger and compares.
     pub fn try_open(&mut self, caps: &Caps) -> Agreed {
         let call = |side: &mut Side| side.judge.open(side.ledger.bytes_mut(), caps);
@@ -176,28 +137,21 @@ impl Compared {
         Ok(answer)
     }
 
-    /// Submits a message and compares. Then asks for the valuation of its swap.
+    /// Submits a message and compares.
     pub fn try_submit(&mut self, message: &[u8]) -> Agreed {
         let call = |side: &mut Side| {
-            let (ledger, values) = (side.ledger.bytes_mut(), side.values.bytes_mut());
-            let (tape, message) = (side.tape.bytes_mut(), side.input.bytes());
-            side.judge.submit(ledger, values, tape, message)
+            let (ledger, tape) = (side.ledger.bytes_mut(), side.tape.bytes_mut());
+            side.judge.submit(ledger, tape, side.input.bytes())
         };
         let answer = self.call(message, call)?;
         self.tally.submission(answer);
-        if answer.identifier == 0 && self.before.tape != self.tape() {
+        if answer.identifier == 0 && self.tape_before != self.tape() {
             return Err(self.mismatch("written without an identifier", message, &[answer]));
         }
-        if let Some(fault) = self.wrong_by_length(answer.verdict) {
-            return Err(self.mismatch(fault, message, &[answer]));
-        }
-        let swap = Message::decode(message).unwrap_or_default();
-        self.try_valuation(swap.value(UTI))?;
         Ok(answer)
     }
 
-    /// Asks a status and compares. Then asks for the swap's valuation, which gets
-    /// the same verdict where the table fits the ledger.
+    /// Asks a status and compares.
     pub fn try_status(&mut self, uti: &[u8]) -> Agreed {
         let call = |side: &mut Side| side.judge.status(side.ledger.bytes(), side.input.bytes());
         let answer = self.call(uti, call)?;
@@ -205,39 +159,7 @@ impl Compared {
         if !self.is_unchanged() {
             return Err(self.mismatch("a status question wrote", uti, &[answer]));
         }
-        let valuation = self.try_valuation(uti)?;
-        let judged = (answer.verdict, answer.element);
-        let alike = judged == (valuation.verdict, valuation.element);
-        if valuation.verdict != VALUES_WRONG && !alike {
-            return Err(self.mismatch("status and valuation are judged apart", uti, &[answer]));
-        }
-        if valuation.record.is_some() && answer.status == UNKNOWN {
-            return Err(self.mismatch("an unknown swap has a valuation", uti, &[answer]));
-        }
         Ok(answer)
-    }
-
-    /// Asks for a valuation and compares.
-    pub fn try_valuation(&mut self, uti: &[u8]) -> Agreed<Valuation> {
-        self.sides
-            .iter_mut()
-            .for_each(|side| side.record.reset(RECORD_SIZE));
-        let call = |side: &mut Side| {
-            let (ledger, values) = (side.ledger.bytes(), side.values.bytes());
-            let record = side.record.bytes_mut().try_into().expect("a record");
-            side.judge
-                .valuation(ledger, values, side.input.bytes(), record)
-        };
-        let answer = self.call(uti, call)?;
-        self.tally.question();
-        if let Some(fault) = self.wrong_valuation(uti, answer) {
-            return Err(self.mismatch(&fault, uti, &[answer]));
-        }
-        Ok(Valuation {
-            verdict: answer.verdict,
-            element: answer.element,
-            record: (answer.status == 1).then(|| self.sides[0].record()),
-        })
     }
 
     /// Asks for the totals and compares.
@@ -280,27 +202,20 @@ impl Compared {
     /// Keeps what the buffers hold before a call.
     fn keep(&mut self) {
         let side = &self.sides[0];
-        let before = &mut self.before;
-        for (kept, lent) in [
-            (&mut before.ledger, &side.ledger),
-            (&mut before.values, &side.values),
-            (&mut before.tape, &side.tape),
-        ] {
-            kept.clear();
-            kept.extend(lent.bytes());
-        }
+        self.ledger_before.clear();
+        self.ledger_before.extend(side.ledger.bytes());
+        self.tape_before.clear();
+        self.tape_before.extend(side.tape.bytes());
     }
 
     fn is_unchanged(&self) -> bool {
-        self.before.ledger == self.ledger()
-            && self.before.values == self.values()
-            && self.before.tape == self.tape()
+        self.ledger_before == self.ledger() && self.tape_before == self.tape()
     }
 
     /// A side wrote beside its buffers, into the message or behind the line.
     fn wrong_write(&self, input: &[u8]) -> Option<String> {
         let mut faults = self.sides.iter().filter_map(|side| {
-            let fault = side.wrong_write(input, &self.before.tape)?;
+            let fault = side.wrong_write(input, &self.tape_before)?;
             Some(format!("{}: {fault}", side.judge.name()))
         });
         faults.next()
@@ -317,12 +232,6 @@ impl Compared {
                 let place = layout::place(at);
                 return Some(format!(
                     "the ledgers differ: byte {at} ({place}) is {a} and {b}"
-                ));
-            }
-            if let Some((at, a, b)) = difference(first.values.bytes(), side.values.bytes()) {
-                let place = layout::place_in_values(at);
-                return Some(format!(
-                    "the valuation tables differ: byte {at} ({place}) is {a} and {b}"
                 ));
             }
             if let Some((at, a, b)) = difference(first.tape.bytes(), side.tape.bytes()) {
@@ -345,47 +254,6 @@ impl Compared {
         }
         let refused = answer.verdict != ACCEPTED && totals[0] != [0; TOTALS];
         refused.then(|| format!("a refusal answers totals: {:?}", totals[0]))
-    }
-
-    /// A valuation question wrote, two sides answered different records, or the
-    /// record is not the one in the table.
-    fn wrong_valuation(&self, uti: &[u8], answer: Answer) -> Option<String> {
-        if !self.is_unchanged() {
-            return Some("a valuation question wrote".to_string());
-        }
-        let records: Vec<Record> = self.sides.iter().map(Side::record).collect();
-        if records.iter().any(|one| *one != records[0]) {
-            return Some(format!("the records differ: {records:?}"));
-        }
-        if let Some(fault) = self.wrong_by_length(answer.verdict) {
-            return Some(fault.to_string());
-        }
-        let due = self.due_valuation(uti, answer.verdict);
-        let answered = (answer.status, answer.identifier, records[0]);
-        let is_due = answered == (due.is_some().into(), 0, due.unwrap_or([0; RECORD_SIZE]));
-        (!is_due).then(|| format!("{answered:?} is answered, due is {due:?}"))
-    }
-
-    /// The swap's record by the bytes of ledger and valuation table, where one
-    /// is due beside a verdict.
-    fn due_valuation(&self, uti: &[u8], verdict: u8) -> Option<Record> {
-        if verdict != ACCEPTED {
-            return None;
-        }
-        let row = layout::row_of(self.ledger(), uti)?;
-        valuations::held(self.values(), row)
-    }
-
-    /// Where the header is right, the length of the valuation table alone
-    /// decides on its verdict.
-    fn wrong_by_length(&self, verdict: u8) -> Option<&'static str> {
-        let fits = self.values().len() == values_size_beside(self.ledger().len());
-        match verdict {
-            LEDGER_WRONG => None,
-            VALUES_WRONG if fits => Some("a valuation table that fits is refused"),
-            VALUES_WRONG => None,
-            _ => (!fits).then_some("a valuation table of another length is not refused"),
-        }
     }
 
     /// An accepted call leaves totals that do not add up to the rows in use.
@@ -423,29 +291,17 @@ impl Compared {
         }
         text += &format!(
             "ledger before: {}\n",
-            layout::described(&self.before.ledger)
+            layout::described(&self.ledger_before)
         );
-        text += &format!("valuation table of {} bytes\n", self.before.values.len());
-        text += &format!("tape buffer of {} bytes\n", self.before.tape.len());
+        text += &format!("tape buffer of {} bytes\n", self.tape_before.len());
         Mismatch(text)
     }
 }
 
 impl Side {
-    /// The record as the last valuation question left it.
-    fn record(&self) -> Record {
-        self.record.bytes().try_into().expect("a record")
-    }
-
     /// What the side wrote where it must not.
     fn wrong_write(&self, input: &[u8], tape_before: &[u8]) -> Option<&'static str> {
-        let lent = [
-            &self.ledger,
-            &self.values,
-            &self.tape,
-            &self.input,
-            &self.record,
-        ];
+        let lent = [&self.ledger, &self.tape, &self.input];
         if !lent.iter().all(|guarded| guarded.is_whole()) || !self.totals.is_whole() {
             return Some("guard bytes changed");
         }
@@ -474,40 +330,16 @@ fn difference(first: &[u8], second: &[u8]) -> Option<(usize, u8, u8)> {
 
 #[cfg(test)]
 mod tests {
-    use super::{Answer, Caps, Compared, Judge, Record};
-    use crate::layout::{ledger_size, values_size, Header, Row, DAY_CAPS, LINE_SIZE, TERMS_SIZE};
-    use crate::layout::{write, RECORD_SIZE, TOTALS, TOTALS_IN_HEADER, U32_SIZE};
-    use crate::sound::uti_of;
+    use super::{Answer, Caps, Compared, Judge};
+    use crate::layout::{ledger_size, LINE_SIZE, TOTALS, TOTALS_IN_HEADER, U32_SIZE};
 
     /// A byte of the second row.
     const IN_ROW_1: usize = ledger_size(1) + 75;
-    /// A byte of the second record.
-    const IN_RECORD_1: usize = RECORD_SIZE + 31;
     /// The longest tape buffer here: a line and some bytes behind it.
     const TAPE: usize = LINE_SIZE + 4;
-    /// The ledgers here have so many rows.
-    const ROWS: usize = 2;
 
-    /// What a judge is lent that it may write.
-    struct Lent<'a> {
-        ledger: &'a mut [u8],
-        values: &'a mut [u8],
-        tape: &'a mut [u8],
-    }
-
-    /// A judge that does to the buffers what it is told.
-    struct Told(fn(Lent) -> Answer);
-
-    impl Told {
-        /// Does it to a copy of the ledger and to other buffers.
-        fn apart(&self, ledger: &[u8]) -> Answer {
-            self.0(Lent {
-                ledger: &mut ledger.to_vec(),
-                values: &mut [0; values_size(ROWS)],
-                tape: &mut [0; TAPE],
-            })
-        }
-    }
+    /// A judge that does to ledger and tape buffer what it is told.
+    struct Told(fn(&mut [u8], &mut [u8]) -> Answer);
 
     impl Judge for Told {
         fn name(&self) -> &'static str {
@@ -515,89 +347,45 @@ mod tests {
         }
 
         fn open(&self, ledger: &mut [u8], _: &Caps) -> Answer {
-            self.apart(ledger)
+            self.0(ledger, &mut [0; TAPE])
         }
 
-        fn submit(
-            &self,
-            ledger: &mut [u8],
-            values: &mut [u8],
-            tape: &mut [u8],
-            _: &[u8],
-        ) -> Answer {
-            self.0(Lent {
-                ledger,
-                values,
-                tape,
-            })
+        fn submit(&self, ledger: &mut [u8], tape: &mut [u8], _: &[u8]) -> Answer {
+            self.0(ledger, tape)
         }
 
         fn status(&self, ledger: &[u8], _: &[u8]) -> Answer {
-            self.apart(ledger)
+            self.0(&mut ledger.to_vec(), &mut [0; TAPE])
         }
 
         fn totals(&self, ledger: &[u8], totals: &mut [u32; TOTALS]) -> Answer {
             *totals = [0; TOTALS];
-            self.apart(ledger)
-        }
-
-        fn valuation(&self, ledger: &[u8], _: &[u8], _: &[u8], record: &mut Record) -> Answer {
-            record.fill(0);
-            self.apart(ledger)
+            self.0(&mut ledger.to_vec(), &mut [0; TAPE])
         }
     }
 
-    /// A judge that answers totals and valuations as it is told, and nothing
-    /// else.
-    struct Answering {
-        status: fn() -> Answer,
-        totals: fn(&mut [u32; TOTALS]) -> Answer,
-        valuation: fn(&mut Record) -> Answer,
-    }
+    /// A judge that answers totals as it is told, and nothing else.
+    struct Totalling(fn(&mut [u32; TOTALS]) -> Answer);
 
-    impl Answering {
-        /// A judge that answers totals as it is told.
-        const fn totals(totals: fn(&mut [u32; TOTALS]) -> Answer) -> Self {
-            Answering {
-                status: Answer::default,
-                totals,
-                valuation: |_| Answer::default(),
-            }
-        }
-
-        /// A judge that answers valuations as it is told.
-        const fn valuation(valuation: fn(&mut Record) -> Answer) -> Self {
-            Answering {
-                status: Answer::default,
-                totals: |_| Answer::default(),
-                valuation,
-            }
-        }
-    }
-
-    impl Judge for Answering {
+    impl Judge for Totalling {
         fn name(&self) -> &'static str {
-            "answering"
+            "totalling"
         }
 
         fn open(&self, _: &mut [u8], _: &Caps) -> Answer {
             Answer::default()
         }
 
-        fn submit(&self, _: &mut [u8], _: &mut [u8], _: &mut [u8], _: &[u8]) -> Answer {
+        fn submit(&self, _: &mut [u8], _: &mut [u8], _: &[u8]) -> Answer {
             Answer::default()
         }
 
         fn status(&self, _: &[u8], _: &[u8]) -> Answer {
-            (self.status)()
+            Answer::default()
         }
 
         fn totals(&self, _: &[u8], totals: &mut [u32; TOTALS]) -> Answer {
-            (self.totals)(totals)
-        }
-
-        fn valuation(&self, _: &[u8], _: &[u8], _: &[u8], record: &mut Record) -> Answer {
-            (self.valuation)(record)
+            self.0(totals)
         }
     }
 
@@ -610,34 +398,24 @@ mod tests {
         }
     }
 
-    static SILENT: Told = Told(|_| Answer::default());
+    static SILENT: Told = Told(|_, _| Answer::default());
 
     /// Other judges, and how their difference from the silent one is told.
-    static OTHERS: [(Told, fn() -> String); 8] = [
-        (Told(|_| answer(15, 0, 0, 0)), answers_differ),
-        (Told(|_| answer(0, 3, 0, 0)), answers_differ),
-        (Told(|_| answer(0, 0, 1, 0)), answers_differ),
-        (Told(|_| answer(0, 0, 0, 1)), answers_differ),
+    static OTHERS: [(Told, fn() -> String); 7] = [
+        (Told(|_, _| answer(15, 0, 0, 0)), answers_differ),
+        (Told(|_, _| answer(0, 3, 0, 0)), answers_differ),
+        (Told(|_, _| answer(0, 0, 1, 0)), answers_differ),
+        (Told(|_, _| answer(0, 0, 0, 1)), answers_differ),
         (
-            Told(|lent| {
-                lent.ledger[IN_ROW_1] = 1;
+            Told(|ledger, _| {
+                ledger[IN_ROW_1] = 1;
                 Answer::default()
             }),
             || format!("the ledgers differ: byte {IN_ROW_1} (row 1 byte 75) is 0 and 1"),
         ),
         (
-            Told(|lent| {
-                lent.values[IN_RECORD_1] = 1;
-                Answer::default()
-            }),
-            || {
-                let place = format!("byte {IN_RECORD_1} (record 1 byte 31)");
-                format!("the valuation tables differ: {place} is 0 and 1")
-            },
-        ),
-        (
-            Told(|lent| {
-                lent.tape[LINE_SIZE - 1] = 1;
+            Told(|_, tape| {
+                tape[LINE_SIZE - 1] = 1;
                 Answer::default()
             }),
             || {
@@ -646,8 +424,8 @@ mod tests {
             },
         ),
         (
-            Told(|lent| {
-                lent.tape[LINE_SIZE] = 1;
+            Told(|_, tape| {
+                tape[LINE_SIZE] = 1;
                 Answer::default()
             }),
             || "told: bytes behind the line changed".to_string(),
@@ -658,74 +436,62 @@ mod tests {
         "the answers differ".to_string()
     }
 
-    static BOTH_WRONG: [(Told, &str); 10] = [
+    static BOTH_WRONG: [(Told, &str); 8] = [
         (
-            Told(|lent| {
-                lent.ledger[0] += 1;
+            Told(|ledger, _| {
+                ledger[0] += 1;
                 answer(0, 0, 0, 0)
             }),
             "1 rows are left with totals [0, 0, 0, 0]",
         ),
         (
             // Four times 2^30, which wraps to 0 at 32 bits.
-            Told(|lent| {
-                let totals = lent.ledger[TOTALS_IN_HEADER].chunks_mut(U32_SIZE);
+            Told(|ledger, _| {
+                let totals = ledger[TOTALS_IN_HEADER].chunks_mut(U32_SIZE);
                 totals.for_each(|total| total[3] = 0x40);
                 answer(0, 0, 0, 0)
             }),
             "0 rows are left with totals [1073741824, 1073741824, 1073741824, 1073741824]",
         ),
         (
-            Told(|lent| {
-                lent.ledger[0] += 1;
+            Told(|ledger, _| {
+                ledger[0] += 1;
                 answer(15, 0, 0, 0)
             }),
             "a refusal wrote",
         ),
         (
-            Told(|lent| {
-                lent.values[0] += 1;
+            Told(|_, tape| {
+                tape[0] += 1;
                 answer(15, 0, 0, 0)
             }),
             "a refusal wrote",
         ),
         (
-            Told(|lent| {
-                lent.tape[0] += 1;
-                answer(15, 0, 0, 0)
-            }),
-            "a refusal wrote",
-        ),
-        (
-            Told(|_| answer(20, 0, 0, 0)),
-            "a valuation table that fits is refused",
-        ),
-        (
-            Told(|lent| {
-                lent.tape[0] += 1;
+            Told(|_, tape| {
+                tape[0] += 1;
                 answer(0, 0, 0, 0)
             }),
             "written without an identifier",
         ),
         (
-            Told(|_| answer(17, 0, 0, 1)),
+            Told(|_, _| answer(17, 0, 0, 1)),
             "a refusal answers a status or an identifier",
         ),
-        (Told(|_| answer(9, 0, 0, 0)), "an element is named wrongly"),
-        (Told(|_| answer(15, 1, 0, 0)), "an element is named wrongly"),
+        (
+            Told(|_, _| answer(9, 0, 0, 0)),
+            "an element is named wrongly",
+        ),
+        (
+            Told(|_, _| answer(15, 1, 0, 0)),
+            "an element is named wrongly",
+        ),
     ];
 
-    /// Buffers of zeros for two judges.
-    fn between(first: &'static dyn Judge, second: &'static dyn Judge) -> Compared {
-        let mut compared = Compared::between(&[first, second]);
-        compared.set_ledger(&[0; ledger_size(ROWS)]);
-        compared.set_values(&[0; values_size(ROWS)]);
-        compared.set_tape(&[0; TAPE]);
-        compared
-    }
-
     fn fault_between(first: &'static Told, second: &'static Told) -> String {
-        let mut compared = between(first, second);
+        let mut compared = Compared::between(&[first, second]);
+        compared.set_ledger(&[0; ledger_size(2)]);
+        compared.set_tape(&[0; TAPE]);
         let result = compared.try_submit(b"message");
         result.expect_err("the judges are wrong").to_string()
     }
@@ -740,24 +506,21 @@ mod tests {
 
     /// Judges beside one that answers totals of 1, 2, 3 and 4, and how the
     /// difference is told. The second leaves the array as it was.
-    static OTHER_TOTALS: [(Answering, &str); 4] = [
+    static OTHER_TOTALS: [(Totalling, &str); 4] = [
+        (Totalling(|_| answer(3, 0, 0, 0)), "the answers differ"),
         (
-            Answering::totals(|_| answer(3, 0, 0, 0)),
-            "the answers differ",
-        ),
-        (
-            Answering::totals(|_| answer(0, 0, 0, 0)),
+            Totalling(|_| answer(0, 0, 0, 0)),
             "the totals differ: [[1, 2, 3, 4], [1010580540, 1010580540, 1010580540, 1010580540]]",
         ),
         (
-            Answering::totals(|totals| {
+            Totalling(|totals| {
                 *totals = [1, 2, 3, 5];
                 answer(0, 0, 0, 0)
             }),
             "the totals differ: [[1, 2, 3, 4], [1, 2, 3, 5]]",
         ),
         (
-            Answering::totals(|totals| {
+            Totalling(|totals| {
                 *totals = [0, 2, 3, 4];
                 answer(0, 0, 0, 0)
             }),
@@ -765,220 +528,34 @@ mod tests {
         ),
     ];
 
-    static COUNTING: Answering = Answering::totals(|totals| {
+    static COUNTING: Totalling = Totalling(|totals| {
         *totals = [1, 2, 3, 4];
         Answer::default()
     });
 
-    static REFUSING: Answering = Answering::totals(|totals| {
+    static REFUSING: Totalling = Totalling(|totals| {
         *totals = [0, 0, 0, 4];
         answer(3, 0, 0, 0)
     });
 
-    #[test]
-    fn each_difference_of_totals_is_told() {
-        for (other, text) in &OTHER_TOTALS {
-            let result = between(&COUNTING, other).try_totals();
-            let fault = result.expect_err("the totals differ").to_string();
-            assert!(fault.starts_with(text), "{fault}");
-        }
-        let result = between(&REFUSING, &REFUSING).try_totals();
-        let fault = result.expect_err("both are wrong").to_string();
-        assert!(fault.starts_with("a refusal answers totals"), "{fault}");
-        let answered = between(&COUNTING, &COUNTING).totals();
-        assert_eq!((answered.verdict, answered.totals), (0, [1, 2, 3, 4]));
-    }
-
-    // Valuations.
-
-    /// What the second record of the table holds below.
-    const STORED: Record = {
-        let mut record = [b'v'; RECORD_SIZE];
-        record[0] = 1;
-        record
-    };
-
-    /// A judge that answers the stored record.
-    static VALUING: Answering = Answering::valuation(|record| {
-        *record = STORED;
-        answer(0, 0, 1, 0)
-    });
-
-    /// Judges beside it, and how the difference is told. The second leaves the
-    /// array as it was.
-    static OTHER_VALUATIONS: [(Answering, &str); 3] = [
-        (
-            Answering::valuation(|_| answer(0, 0, 0, 0)),
-            "the answers differ",
-        ),
-        (
-            Answering::valuation(|_| answer(0, 0, 1, 0)),
-            "the records differ",
-        ),
-        (
-            Answering::valuation(|record| {
-                *record = STORED;
-                record[RECORD_SIZE - 1] = 0;
-                answer(0, 0, 1, 0)
-            }),
-            "the records differ",
-        ),
-    ];
-
-    /// Answers that are wrong on both sides, whatever they have in common.
-    static WRONG_VALUATIONS: [(Answering, &str); 8] = [
-        (
-            Answering::valuation(|record| {
-                *record = [0; RECORD_SIZE];
-                answer(0, 0, 0, 0)
-            }),
-            "(0, 0, [0, 0",
-        ),
-        (
-            Answering::valuation(|record| {
-                *record = STORED;
-                answer(0, 0, 0, 0)
-            }),
-            "(0, 0, [1, 118",
-        ),
-        (
-            Answering::valuation(|record| {
-                *record = STORED;
-                record[1] = 0;
-                answer(0, 0, 1, 0)
-            }),
-            "(1, 0, [1, 0",
-        ),
-        (
-            Answering::valuation(|record| {
-                *record = STORED;
-                answer(0, 0, 1, 7)
-            }),
-            "(1, 7, [1, 118",
-        ),
-        (
-            Answering::valuation(|record| {
-                *record = STORED;
-                answer(14, 0, 0, 0)
-            }),
-            "(0, 0, [1, 118",
-        ),
-        (
-            Answering::valuation(|record| {
-                *record = [0; RECORD_SIZE];
-                answer(14, 0, 1, 0)
-            }),
-            "a refusal answers a status or an identifier",
-        ),
-        (
-            Answering::valuation(|record| {
-                *record = [0; RECORD_SIZE];
-                answer(20, 0, 0, 0)
-            }),
-            "a valuation table that fits is refused",
-        ),
-        (
-            Answering::valuation(|record| {
-                *record = [0; RECORD_SIZE];
-                answer(9, 0, 0, 0)
-            }),
-            "an element is named wrongly",
-        ),
-    ];
-
-    /// A ledger in whose second row stands a swap, beside the stored record.
-    fn with_a_valuation(first: &'static Answering, second: &'static Answering) -> Compared {
-        let mut compared = between(first, second);
-        let mut ledger = [0; ledger_size(ROWS)];
-        let mut header = Header::opened(ledger.len(), DAY_CAPS);
-        let rows = [0, 1].map(|n| Row::new(uti_of(n).as_bytes(), 1, [b' '; TERMS_SIZE]));
-        header.count(&rows);
-        write(&mut ledger, &header, &rows);
-        compared.set_ledger(&ledger);
-        compared.set_values(&[[0; RECORD_SIZE], STORED].concat());
+    fn totals_between(first: &'static Totalling, second: &'static Totalling) -> Compared {
+        let mut compared = Compared::between(&[first, second]);
+        compared.set_ledger(&[0; ledger_size(2)]);
         compared
     }
 
     #[test]
-    fn each_difference_of_valuations_is_told() {
-        let uti = uti_of(1);
-        for (other, text) in &OTHER_VALUATIONS {
-            let result = with_a_valuation(&VALUING, other).try_valuation(uti.as_bytes());
-            let fault = result.expect_err("the valuations differ").to_string();
+    fn each_difference_of_totals_is_told() {
+        for (other, text) in &OTHER_TOTALS {
+            let result = totals_between(&COUNTING, other).try_totals();
+            let fault = result.expect_err("the totals differ").to_string();
             assert!(fault.starts_with(text), "{fault}");
         }
-        for (wrong, text) in &WRONG_VALUATIONS {
-            let result = with_a_valuation(wrong, wrong).try_valuation(uti.as_bytes());
-            let fault = result.expect_err("both are wrong").to_string();
-            assert!(fault.starts_with(text), "{fault}");
-        }
-        let answered = with_a_valuation(&VALUING, &VALUING).valuation(uti.as_bytes());
-        assert_eq!((answered.verdict, answered.record), (0, Some(STORED)));
-    }
-
-    /// A table that does not fit the ledger has to be refused.
-    #[test]
-    fn other_lengths_that_are_let_pass_are_told() {
-        for length in [0, RECORD_SIZE, values_size(ROWS) - 1, values_size(ROWS) + 1] {
-            let mut compared = with_a_valuation(&VALUING, &VALUING);
-            compared.set_values(&vec![0; length]);
-            let text = "a valuation table of another length is not refused";
-            let fault = compared.try_valuation(b"").expect_err("20 is due");
-            assert!(fault.to_string().starts_with(text), "{fault}");
-            let fault = compared.try_submit(b"").expect_err("20 is due");
-            assert!(fault.to_string().starts_with(text), "{fault}");
-        }
-    }
-
-    /// Judges whose status question and valuation question do not fit together.
-    static APART: [(Answering, &str); 3] = [
-        (
-            Answering {
-                status: || answer(14, 0, 0, 0),
-                ..VALUING
-            },
-            "status and valuation are judged apart",
-        ),
-        (
-            Answering {
-                status: || answer(0, 0, 1, 1),
-                ..Answering::valuation(|record| {
-                    *record = [0; RECORD_SIZE];
-                    answer(14, 0, 0, 0)
-                })
-            },
-            "status and valuation are judged apart",
-        ),
-        (
-            Answering {
-                status: || answer(0, 0, 0, 0),
-                ..VALUING
-            },
-            "an unknown swap has a valuation",
-        ),
-    ];
-
-    #[test]
-    fn status_and_valuation_have_to_agree() {
-        let uti = uti_of(1);
-        for (wrong, text) in &APART {
-            let result = with_a_valuation(wrong, wrong).try_status(uti.as_bytes());
-            let fault = result.expect_err("the questions differ").to_string();
-            assert!(fault.starts_with(text), "{fault}");
-        }
-    }
-
-    /// A ledger keeps the table that fits it and gets another that does.
-    #[test]
-    fn tables_fit_their_ledgers() {
-        let mut compared = between(&SILENT, &SILENT);
-        compared.set_values(&[7; values_size(ROWS)]);
-        compared.set_ledger(&[1; ledger_size(ROWS) + 5]);
-        assert_eq!(compared.values(), [7; values_size(ROWS)]);
-        compared.set_ledger(&[1; ledger_size(3)]);
-        assert_eq!(compared.values(), [0xee; values_size(3)]);
-        compared.set_ledger(&[]);
-        assert_eq!(compared.values(), []);
+        let result = totals_between(&REFUSING, &REFUSING).try_totals();
+        let fault = result.expect_err("both are wrong").to_string();
+        assert!(fault.starts_with("a refusal answers totals"), "{fault}");
+        let answered = totals_between(&COUNTING, &COUNTING).totals();
+        assert_eq!((answered.verdict, answered.totals), (0, [1, 2, 3, 4]));
     }
 
     #[test]

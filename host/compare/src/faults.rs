@@ -37,18 +37,6 @@ pub enum Damage {
     TotalsWrap,
 }
 
-/// Another length of the valuation table than the ledger asks for (20).
-#[derive(Clone, Copy, Debug, PartialEq, Eq)]
-pub enum Length {
-    Empty,
-    ByteLess,
-    ByteMore,
-    RecordLess,
-    RecordMore,
-    /// As long as the ledger.
-    Ledger,
-}
-
 /// A fault in the message's layout (5).
 #[derive(Clone, Copy, Debug, PartialEq, Eq)]
 pub enum Layout {
@@ -60,8 +48,6 @@ pub enum Layout {
     CountTooHigh,
     CodeZero,
     CodeTooHigh,
-    /// A code before the last one that no element has.
-    CodeOfNone,
     CodesEqual,
     FirstOffset,
     OffsetsEqual,
@@ -101,7 +87,6 @@ pub enum WrongRow {
 #[derive(Clone, Copy, Debug, PartialEq, Eq)]
 pub enum Fault {
     LedgerWrong(Damage),
-    ValuesWrong(Length),
     TapeShort,
     LayoutWrong(Layout),
     ActionWrong,
@@ -115,7 +100,6 @@ pub enum Fault {
     DatesDisordered(Order),
     RowWrong(WrongRow),
     NotAdmitted(u8),
-    ValuationEarlier,
     OtherTime,
     LedgerFull,
     IdentifiersSpent,
@@ -126,7 +110,6 @@ impl Fault {
     pub fn verdict(self) -> u8 {
         match self {
             Fault::LedgerWrong(_) => sdr::LEDGER_WRONG,
-            Fault::ValuesWrong(_) => sdr::VALUES_WRONG,
             Fault::TapeShort => sdr::TAPE_SHORT,
             Fault::LayoutWrong(_) => sdr::LAYOUT_WRONG,
             Fault::ActionWrong => sdr::ACTION_WRONG,
@@ -140,7 +123,6 @@ impl Fault {
             Fault::DatesDisordered(_) => sdr::DATES_DISORDERED,
             Fault::RowWrong(_) => sdr::ROW_WRONG,
             Fault::NotAdmitted(_) => sdr::NOT_ADMITTED,
-            Fault::ValuationEarlier => sdr::VALUATION_EARLIER,
             Fault::OtherTime => sdr::OTHER_TIME,
             Fault::LedgerFull => sdr::LEDGER_FULL,
             Fault::IdentifiersSpent => sdr::IDENTIFIERS_SPENT,
@@ -175,14 +157,11 @@ impl Fault {
         match self {
             Fault::ElementMissing(code) | Fault::FormBroken(code) => takes(action, code),
             Fault::ElementNotTaken(code) => !takes(action, code),
-            // An event that an action does not take gets 8.
-            Fault::NotAPair => takes(action, EVENT_TYPE),
             Fault::ConditionalMissing(_)
             | Fault::PriceAndSpread
             | Fault::PriceTooLong(_)
             | Fault::DatesDisordered(_) => is_full(action),
             Fault::NotAdmitted(status) => matrix::status_after(action, status).is_none(),
-            Fault::ValuationEarlier => matrix::is_valuation(action),
             Fault::OtherTime => matrix::repeats_execution(action),
             Fault::LedgerFull => action == "NEWT",
             Fault::IdentifiersSpent => matrix::can_write_line(action),
@@ -198,18 +177,15 @@ pub fn all() -> Vec<Fault> {
         Fault::ActionWrong,
         Fault::NotAPair,
         Fault::PriceAndSpread,
-        Fault::ValuationEarlier,
         Fault::OtherTime,
         Fault::LedgerFull,
         Fault::IdentifiersSpent,
     ];
     faults.extend(damages().into_iter().map(Fault::LedgerWrong));
-    faults.extend(LENGTHS.map(Fault::ValuesWrong));
     faults.extend(LAYOUTS.map(Fault::LayoutWrong));
     faults.extend(NEEDED_BY_ALL.map(Fault::ElementMissing));
     faults.extend(NEEDED_BY_FULL.map(Fault::ElementMissing));
-    faults.extend(NEEDED_BY_VALUATION.map(Fault::ElementMissing));
-    faults.extend(codes_not_taken_by_all().map(Fault::ElementNotTaken));
+    faults.extend(codes_of_full_messages().map(Fault::ElementNotTaken));
     faults.extend(codes_with_a_form().map(Fault::FormBroken));
     faults.extend(CONDITIONAL.map(Fault::ConditionalMissing));
     faults.extend(TOO_LONG.map(Fault::PriceTooLong));
@@ -239,16 +215,7 @@ fn damages() -> Vec<Damage> {
     damages
 }
 
-const LENGTHS: [Length; 6] = [
-    Length::Empty,
-    Length::ByteLess,
-    Length::ByteMore,
-    Length::RecordLess,
-    Length::RecordMore,
-    Length::Ledger,
-];
-
-const LAYOUTS: [Layout; 15] = [
+const LAYOUTS: [Layout; 14] = [
     Layout::Empty,
     Layout::OneByte,
     Layout::CountHigher,
@@ -257,7 +224,6 @@ const LAYOUTS: [Layout; 15] = [
     Layout::CountTooHigh,
     Layout::CodeZero,
     Layout::CodeTooHigh,
-    Layout::CodeOfNone,
     Layout::CodesEqual,
     Layout::FirstOffset,
     Layout::OffsetsEqual,

@@ -1,7 +1,7 @@
 //! Bytes that no host would send.
 
 use crate::layout::{totals_in, COUNT_SIZE, ENTRY_SIZE, TOTALS, TOTALS_IN_HEADER};
-use crate::lists::codes;
+use crate::lists::LAST_CODE;
 use crate::random::Random;
 
 /// Changes some bytes at random.
@@ -44,7 +44,7 @@ pub fn noise(random: &mut Random, longest: usize) -> Vec<u8> {
 
 /// A message with a right count and wild codes and offsets.
 pub fn wild_message(random: &mut Random) -> Vec<u8> {
-    let count = random.between(0, codes().count() + 1);
+    let count = random.between(0, usize::from(LAST_CODE) + 1);
     let mut bytes = (count as u16).to_le_bytes().to_vec();
     let mut code = 0;
     let mut offset = COUNT_SIZE + ENTRY_SIZE * count;

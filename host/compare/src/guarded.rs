@@ -41,11 +41,6 @@ impl Guarded {
         }
     }
 
-    /// Gives the buffer so many old bytes, which the pattern tells from another's.
-    pub fn reset(&mut self, length: usize) {
-        self.set(&vec![self.pattern; length]);
-    }
-
     /// The buffer without its guards.
     pub fn bytes(&self) -> &[u8] {
         &self.bytes[self.start..self.start + self.length]
@@ -134,14 +129,6 @@ mod tests {
                 guarded.bytes[at] ^= 1;
             }
         }
-    }
-
-    #[test]
-    fn old_bytes_are_those_of_the_pattern() {
-        let mut guarded = Guarded::new(0x5a);
-        guarded.reset(3);
-        assert_eq!(guarded.bytes(), [0x5a; 3]);
-        assert!(guarded.is_whole());
     }
 
     #[test]

@@ -7,14 +7,12 @@ use crate::lists::{ACTION_TYPE, EVENT_TIMESTAMP, EVENT_TYPE, UTI};
 use crate::matrix::{can_write_line, is_full};
 use crate::message::Message;
 use crate::terms::terms_of;
-use sdr::{Answer, Totals};
+use sdr::Totals;
 
-/// One submission: the message, and valuation table and tape buffer before it.
+/// One submission: the message and the tape buffer before it.
 #[derive(Clone)]
 pub struct Call {
     pub message: Vec<u8>,
-    /// None is the table as the call before left it.
-    pub values: Option<Vec<u8>>,
     pub tape: Vec<u8>,
 }
 
@@ -23,8 +21,6 @@ pub struct Call {
 pub struct History {
     /// The ledger's bytes before opening.
     pub ledger: Vec<u8>,
-    /// The valuation table before the first submission.
-    pub values: Vec<u8>,
     pub caps: Caps,
     /// Bytes written over the opened ledger before the first submission, with
     /// their place; empty in a history that starts as specified.
@@ -52,7 +48,6 @@ pub struct Run {
 /// Submits all messages of a history.
 pub fn run(compared: &mut Compared, history: &History) -> Run {
     compared.set_ledger(&history.ledger);
-    compared.set_values(&history.values);
     let opened = compared.open(&history.caps).verdict;
     let fresh = opened == 0 && !tamper(compared, &history.tampering);
     let mut run = Run {
@@ -65,26 +60,17 @@ pub fn run(compared: &mut Compared, history: &History) -> Run {
         totals: Totals::default(),
     };
     for call in &history.calls {
-        let answer = submit(compared, call, &mut run.tape);
+        compared.set_tape(&call.tape);
+        let answer = compared.submit(&call.message);
         run.messages.push(call.message.clone());
         run.verdicts.push(answer.verdict);
         run.identifiers.push(answer.identifier);
+        if answer.verdict == 0 && answer.identifier != 0 {
+            run.tape.extend(&compared.tape()[..LINE_SIZE]);
+        }
     }
     run.totals = compared.totals();
     run
-}
-
-/// Makes one submission. The line that it writes goes to the tape.
-pub fn submit(compared: &mut Compared, call: &Call, tape: &mut Vec<u8>) -> Answer {
-    if let Some(values) = &call.values {
-        compared.set_values(values);
-    }
-    compared.set_tape(&call.tape);
-    let answer = compared.submit(&call.message);
-    if answer.verdict == 0 && answer.identifier != 0 {
-        tape.extend(&compared.tape()[..LINE_SIZE]);
-    }
-    answer
 }
 
 /// Writes over the opened ledger and says whether that changed anything.

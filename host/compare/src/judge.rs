@@ -1,29 +1,20 @@
 //! The two that judge: the core and the checker.
 
-use crate::layout::{Caps, Record, TOTALS};
+use crate::layout::{Caps, TOTALS};
 use sdr::Answer;
 
-/// The five operations on lent bytes.
+/// The four operations on lent bytes.
 pub trait Judge: Sync {
     /// The name that a report uses.
     fn name(&self) -> &'static str;
     /// Opens a ledger; only the verdict of the answer is used.
     fn open(&self, ledger: &mut [u8], caps: &Caps) -> Answer;
     /// Submits one message.
-    fn submit(
-        &self,
-        ledger: &mut [u8],
-        values: &mut [u8],
-        tape: &mut [u8],
-        message: &[u8],
-    ) -> Answer;
+    fn submit(&self, ledger: &mut [u8], tape: &mut [u8], message: &[u8]) -> Answer;
     /// Asks the status of one swap.
     fn status(&self, ledger: &[u8], uti: &[u8]) -> Answer;
     /// Asks for the totals; only the verdict of the answer is used.
     fn totals(&self, ledger: &[u8], totals: &mut [u32; TOTALS]) -> Answer;
-    /// Asks for the valuation of one swap; the answer's status is 1 where one is
-    /// held.
-    fn valuation(&self, ledger: &[u8], values: &[u8], uti: &[u8], record: &mut Record) -> Answer;
 }
 
 /// The core, through its C interface.
@@ -51,14 +42,8 @@ impl Judge for Core {
         sdr::open(ledger, caps)
     }
 
-    fn submit(
-        &self,
-        ledger: &mut [u8],
-        values: &mut [u8],
-        tape: &mut [u8],
-        message: &[u8],
-    ) -> Answer {
-        sdr::submit(ledger, values, tape, message)
+    fn submit(&self, ledger: &mut [u8], tape: &mut [u8], message: &[u8]) -> Answer {
+        sdr::submit(ledger, tape, message)
     }
 
     fn status(&self, ledger: &[u8], uti: &[u8]) -> Answer {
@@ -67,10 +52,6 @@ impl Judge for Core {
 
     fn totals(&self, ledger: &[u8], totals: &mut [u32; TOTALS]) -> Answer {
         sdr::totals_into(ledger, totals)
-    }
-
-    fn valuation(&self, ledger: &[u8], values: &[u8], uti: &[u8], record: &mut Record) -> Answer {
-        sdr::valuation_into(ledger, values, uti, record)
     }
 }
 
@@ -86,21 +67,12 @@ impl Judge for Apart {
         answer
     }
 
-    fn submit(
-        &self,
-        ledger: &mut [u8],
-        values: &mut [u8],
-        tape: &mut [u8],
-        message: &[u8],
-    ) -> Answer {
-        let lent = [ledger, values, tape];
-        let mut own: [Box<[u8]>; 3] = lent.each_ref().map(|bytes| Box::from(&**bytes));
-        let [own_ledger, own_values, own_tape] = &mut own;
-        let message: Box<[u8]> = Box::from(message);
-        let answer = sdr::submit(own_ledger, own_values, own_tape, &message);
-        for (bytes, own) in lent.into_iter().zip(&own) {
-            bytes.copy_from_slice(own);
-        }
+    fn submit(&self, ledger: &mut [u8], tape: &mut [u8], message: &[u8]) -> Answer {
+        let mut own: [Box<[u8]>; 2] = [Box::from(&*ledger), Box::from(&*tape)];
+        let [own_ledger, own_tape] = &mut own;
+        let answer = sdr::submit(own_ledger, own_tape, &Box::<[u8]>::from(message));
+        ledger.copy_from_slice(own_ledger);
+        tape.copy_from_slice(own_tape);
         answer
     }
 
@@ -112,14 +84,6 @@ impl Judge for Apart {
         let mut own = Box::new(*totals);
         let answer = sdr::totals_into(&Box::<[u8]>::from(ledger), &mut own);
         *totals = *own;
-        answer
-    }
-
-    fn valuation(&self, ledger: &[u8], values: &[u8], uti: &[u8], record: &mut Record) -> Answer {
-        let [ledger, values, uti] = [ledger, values, uti].map(Box::<[u8]>::from);
-        let mut own = Box::new(*record);
-        let answer = sdr::valuation_into(&ledger, &values, &uti, &mut own);
-        *record = *own;
         answer
     }
 }
@@ -136,14 +100,8 @@ impl Judge for Checker {
         }
     }
 
-    fn submit(
-        &self,
-        ledger: &mut [u8],
-        values: &mut [u8],
-        tape: &mut [u8],
-        message: &[u8],
-    ) -> Answer {
-        translated(checker::submit(ledger, values, tape, message))
+    fn submit(&self, ledger: &mut [u8], tape: &mut [u8], message: &[u8]) -> Answer {
+        translated(checker::submit(ledger, tape, message))
     }
 
     fn status(&self, ledger: &[u8], uti: &[u8]) -> Answer {
@@ -152,10 +110,6 @@ impl Judge for Checker {
 
     fn totals(&self, ledger: &[u8], totals: &mut [u32; TOTALS]) -> Answer {
         handed_over(checker::totals(ledger), totals)
-    }
-
-    fn valuation(&self, ledger: &[u8], values: &[u8], uti: &[u8], record: &mut Record) -> Answer {
-        translated(checker::valuation(ledger, values, uti, record))
     }
 }
 

@@ -3,8 +3,7 @@
 
 mod ledger;
 
-pub use ledger::{described, place, place_in_values, total_place, totals_in, u32_at, u64_at};
-pub use ledger::{row_of, write, Header, Row};
+pub use ledger::{described, place, total_place, totals_in, u32_at, u64_at, write, Header, Row};
 
 use crate::lists::{CLASSES, ROW_STATUSES};
 use std::ops::Range;
@@ -41,8 +40,8 @@ pub struct Num {
     pub after_point: usize,
 }
 
-/// An amount, with or without a sign.
-pub const AMOUNT_NUM: Num = Num {
+/// The notional amount.
+pub const NOTIONAL_NUM: Num = Num {
     digits: 25,
     after_point: 5,
 };
@@ -75,7 +74,7 @@ pub const LONGEST_PACKAGE_IDENTIFIER: usize = 100;
 
 /// The digits of an identifier.
 pub const IDENTIFIER_DIGITS: usize = 12;
-/// The characters of an action, an event or a valuation method.
+/// The characters of an action or event.
 pub const WORD_SIZE: usize = 4;
 /// The characters of a time.
 pub const TIME_SIZE: usize = 20;
@@ -195,26 +194,6 @@ pub const SMALLEST_CAP: u64 = 1_000;
 /// The largest cap.
 pub const LARGEST_CAP: u64 = 1_000_000_000_000_000;
 
-// The valuation table.
-
-/// The characters of a valuation amount: a minus, the digits and a point.
-pub const VALUATION_AMOUNT_SIZE: usize = 1 + AMOUNT_NUM.digits + 1;
-/// The first byte of a record that holds a valuation.
-pub const HELD: u8 = 1;
-
-pub const HELD_IN_RECORD: usize = 0;
-pub const AMOUNT_IN_RECORD: Range<usize> = after(0..HELD_IN_RECORD + 1, VALUATION_AMOUNT_SIZE);
-pub const CURRENCY_IN_RECORD: Range<usize> = after(AMOUNT_IN_RECORD, CURRENCY_SIZE);
-pub const TIME_IN_RECORD: Range<usize> = after(CURRENCY_IN_RECORD, TIME_SIZE);
-pub const METHOD_IN_RECORD: Range<usize> = after(TIME_IN_RECORD, WORD_SIZE);
-/// The zero that ends a record.
-pub const TAIL_IN_RECORD: usize = METHOD_IN_RECORD.end;
-
-/// The bytes of a record.
-pub const RECORD_SIZE: usize = TAIL_IN_RECORD + 1;
-/// A record.
-pub type Record = [u8; RECORD_SIZE];
-
 // The day run.
 
 /// The bytes of the length before a message.
@@ -234,21 +213,6 @@ pub fn capacity(length: usize) -> usize {
 /// The length of a ledger that has exactly so many rows.
 pub const fn ledger_size(rows: usize) -> usize {
     HEADER_SIZE + ROW_SIZE * rows
-}
-
-/// The length of the valuation table beside a ledger of so many rows.
-pub const fn values_size(rows: usize) -> usize {
-    RECORD_SIZE * rows
-}
-
-/// The length of the valuation table beside a ledger of a length.
-pub fn values_size_beside(ledger_length: usize) -> usize {
-    values_size(capacity(ledger_length))
-}
-
-/// Where the record of a row lies in the valuation table.
-pub fn record_range(row: usize) -> Range<usize> {
-    values_size(row)..values_size(row + 1)
 }
 
 /// Where a row lies in the ledger.
@@ -316,15 +280,10 @@ mod tests {
             assert_eq!(capacity(length), rows, "{length}");
         }
         assert_eq!(row_range(0), HEADER_SIZE..SHORTEST_LEDGER);
-        assert_eq!(record_range(0), 0..RECORD_SIZE);
-        assert_eq!(record_range(2), 112..168);
-        assert_eq!(values_size_beside(SHORTEST_LEDGER - 1), 0);
-        assert_eq!(values_size_beside(ledger_size(100_001)), 5_600_000);
         assert_eq!(
             place(HEADER_SIZE - 1),
             format!("header byte {}", HEADER_SIZE - 1)
         );
         assert_eq!(place(SHORTEST_LEDGER + 75), "row 1 byte 75");
-        assert_eq!(place_in_values(2 * RECORD_SIZE + 31), "record 2 byte 31");
     }
 }

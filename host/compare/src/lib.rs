@@ -1,12 +1,11 @@
 //! Tests of the swap data validation core beside a separately written checker.
 //!
-//! Both are lent copies of the same ledger, valuation table, tape buffer and
-//! message; their answers and every byte afterwards have to be equal
-//! ([`compared`]). What is submitted comes from generators ([`sound`],
-//! [`showing`], [`faults`], [`cycles`]) that also say which verdict is due. What
-//! they know of the specification stands in [`layout`] (sizes, offsets and
-//! limits), [`lists`], [`codes`] (of currencies and locations), [`order`] (of
-//! rules), [`terms`] and [`valuations`] (of what is stored).
+//! Both are lent copies of the same ledger, tape buffer and message; their
+//! answers and every byte afterwards have to be equal ([`compared`]). What is
+//! submitted comes from generators ([`sound`], [`showing`], [`faults`],
+//! [`cycles`]) that also say which verdict is due. What they know of the specification stands in
+//! [`layout`] (sizes, offsets and limits), [`lists`], [`codes`] (of currencies
+//! and locations) and [`order`] (of rules).
 
 pub mod calls;
 pub mod codes;
@@ -31,7 +30,6 @@ pub mod showing;
 pub mod sound;
 pub mod tally;
 pub mod terms;
-pub mod valuations;
 pub mod values;
 
 /// How many submissions a random part makes: as many as the environment

@@ -33,15 +33,11 @@ pub const ASSET_CLASS: u8 = 25;
 pub const PACKAGE_SPREAD: u8 = 26;
 pub const SPREAD_NOTATION: u8 = 27;
 pub const SPREAD_CURRENCY: u8 = 28;
-pub const VALUATION_AMOUNT: u8 = 30;
-pub const VALUATION_CURRENCY: u8 = 31;
-pub const VALUATION_TIMESTAMP: u8 = 32;
-pub const VALUATION_METHOD: u8 = 33;
 
 /// The last element code.
-pub const LAST_CODE: u8 = VALUATION_METHOD;
-/// The number before the last code that no element has.
-pub const NO_CODE: u8 = 29;
+pub const LAST_CODE: u8 = SPREAD_CURRENCY;
+/// The last code that a message takes whose action is not full.
+const LAST_SHORT: u8 = REPORTING_TIMESTAMP;
 
 /// The codes needed by all messages, without the action, which has a rule of
 /// its own.
@@ -62,13 +58,6 @@ pub const NEEDED_BY_FULL: [u8; 14] = [
     COUNTERPARTY_1,
     COUNTERPARTY_2,
     ASSET_CLASS,
-];
-/// The further codes needed by valuations.
-pub const NEEDED_BY_VALUATION: [u8; 4] = [
-    VALUATION_AMOUNT,
-    VALUATION_CURRENCY,
-    VALUATION_TIMESTAMP,
-    VALUATION_METHOD,
 ];
 /// The conditional codes.
 pub const CONDITIONAL: [u8; 7] = [
@@ -91,16 +80,11 @@ pub const TRUTH_CODES: [u8; 4] = [
 ];
 
 /// The codes whose value is a currency.
-pub const CURRENCY_CODES: [u8; 4] = [
-    PRICE_CURRENCY,
-    NOTIONAL_CURRENCY,
-    SPREAD_CURRENCY,
-    VALUATION_CURRENCY,
-];
+pub const CURRENCY_CODES: [u8; 3] = [PRICE_CURRENCY, NOTIONAL_CURRENCY, SPREAD_CURRENCY];
 
 /// The element codes, rising.
 pub fn codes() -> impl Iterator<Item = u8> {
-    (UTI..=LAST_CODE).filter(|&code| code != NO_CODE)
+    UTI..=LAST_CODE
 }
 
 /// Whether an element has this code.
@@ -116,45 +100,23 @@ pub fn codes_with_a_form() -> impl Iterator<Item = u8> {
 
 /// Whether a message of an action takes a code.
 pub fn takes(action: &str, code: u8) -> bool {
-    if FULL_ACTIONS.contains(&action) {
-        return !NEEDED_BY_VALUATION.contains(&code);
-    }
-    let by_kind = if VALUATION_ACTIONS.contains(&action) {
-        NEEDED_BY_VALUATION.contains(&code)
-    } else {
-        code == EVENT_TYPE
-    };
-    by_kind || code == ACTION_TYPE || NEEDED_BY_ALL.contains(&code)
+    FULL_ACTIONS.contains(&action) || code <= LAST_SHORT
 }
 
-/// The codes that a message of an action takes.
-pub fn codes_taken_by(action: &str) -> impl Iterator<Item = u8> + '_ {
-    codes().filter(move |&code| takes(action, code))
-}
-
-/// The codes that a message of an action does not take.
-pub fn codes_not_taken_by(action: &str) -> impl Iterator<Item = u8> + '_ {
-    codes().filter(move |&code| !takes(action, code))
-}
-
-/// The codes that messages of some action do not take.
-pub fn codes_not_taken_by_all() -> impl Iterator<Item = u8> {
-    codes().filter(|&code| ACTIONS.iter().any(|action| !takes(action, code)))
+/// The codes that only full messages take.
+pub fn codes_of_full_messages() -> impl Iterator<Item = u8> {
+    codes().filter(|&code| code > LAST_SHORT)
 }
 
 // Actions, events and statuses.
 
-pub const ACTIONS: [&str; 8] = [
-    "NEWT", "MODI", "CORR", "TERM", "EROR", "REVI", "PRTO", "VALU",
-];
+pub const ACTIONS: [&str; 7] = ["NEWT", "MODI", "CORR", "TERM", "EROR", "REVI", "PRTO"];
 /// The actions whose messages carry the terms of the swap.
 pub const FULL_ACTIONS: [&str; 4] = ["NEWT", "MODI", "CORR", "REVI"];
-/// The actions whose messages carry a valuation of the swap.
-pub const VALUATION_ACTIONS: [&str; 1] = ["VALU"];
 /// The actions that repeat the stored execution time.
 pub const REPEATING_ACTIONS: [&str; 2] = ["MODI", "REVI"];
 /// The actions that write no line.
-pub const ACTIONS_WITHOUT_LINE: [&str; 2] = ["PRTO", "VALU"];
+pub const ACTIONS_WITHOUT_LINE: [&str; 1] = ["PRTO"];
 /// The actions that write no line where they repeat the stored masked terms.
 pub const ACTIONS_WITH_NEW_TERMS: [&str; 1] = ["MODI"];
 
@@ -165,7 +127,7 @@ pub const EVENTS: [&str; 12] = [
 
 /// The matrix: the events that go with an action. One that has none here
 /// carries no event; each other carries one.
-pub const MATRIX: [(&str, &[&str]); 8] = [
+pub const MATRIX: [(&str, &[&str]); 7] = [
     (
         "NEWT",
         &[
@@ -188,14 +150,13 @@ pub const MATRIX: [(&str, &[&str]); 8] = [
     ("EROR", &[]),
     ("REVI", &[]),
     ("PRTO", &["PTNG"]),
-    ("VALU", &[]),
 ];
 
 /// The statuses of a swap that has a row.
 pub const ROW_STATUSES: [u8; 4] = [LIVE, CLOSED, ERRORED, PORTED];
 
 /// The steps: an action, a status that admits it, and the status after it.
-pub const STEPS: [(&str, u8, u8); 11] = [
+pub const STEPS: [(&str, u8, u8); 10] = [
     ("NEWT", UNKNOWN, LIVE),
     ("MODI", LIVE, LIVE),
     ("CORR", LIVE, LIVE),
@@ -206,7 +167,6 @@ pub const STEPS: [(&str, u8, u8); 11] = [
     ("REVI", ERRORED, LIVE),
     ("REVI", CLOSED, LIVE),
     ("PRTO", LIVE, PORTED),
-    ("VALU", LIVE, LIVE),
 ];
 
 /// The statuses of a swap, known or not.
@@ -230,7 +190,6 @@ pub const DECIMAL: &str = "3";
 pub const BASIS_POINTS: &str = "4";
 pub const PRICE_NOTATIONS: [&str; 2] = [MONETARY, DECIMAL];
 pub const SPREAD_NOTATIONS: [&str; 3] = [MONETARY, DECIMAL, BASIS_POINTS];
-pub const METHODS: [&str; 3] = ["MTMA", "MTMO", "CCPV"];
 /// The asset classes, in the order of the caps.
 pub const CLASSES: [&str; 5] = ["CR", "IR", "FX", "EQ", "CO"];
 
@@ -288,25 +247,18 @@ mod tests {
         let mut found = [NEEDED_BY_ALL.as_slice(), &NEEDED_BY_FULL, &CONDITIONAL].concat();
         found.extend([ACTION_TYPE, EVENT_TYPE]);
         found.extend(OPTIONAL);
-        found.extend(NEEDED_BY_VALUATION);
         found.sort();
         assert!(codes().eq(found));
-        assert!(is_code(1) && is_code(LAST_CODE));
-        assert!(![0, NO_CODE, LAST_CODE + 1].into_iter().any(is_code));
+        assert!(is_code(1) && is_code(LAST_CODE) && !is_code(0) && !is_code(LAST_CODE + 1));
     }
 
     #[test]
-    fn each_kind_of_message_takes_its_codes() {
-        for action in ["NEWT", "MODI", "CORR", "REVI"] {
-            assert!(codes_taken_by(action).eq(1..=28), "{action}");
-            assert!(codes_not_taken_by(action).eq(30..=33), "{action}");
+    fn short_messages_take_the_codes_up_to_5() {
+        for code in codes() {
+            assert_eq!(takes("TERM", code), code <= 5, "{code}");
+            assert!(takes("CORR", code), "{code}");
         }
-        for action in ["TERM", "EROR", "PRTO"] {
-            assert!(codes_taken_by(action).eq(1..=5), "{action}");
-        }
-        assert!(codes_taken_by("VALU").eq([1, 2, 4, 5, 30, 31, 32, 33]));
-        let not_by_all = [3].into_iter().chain(6..=28).chain(30..=33);
-        assert!(codes_not_taken_by_all().eq(not_by_all));
+        assert!(codes_of_full_messages().eq(6..=LAST_CODE));
     }
 
     #[test]

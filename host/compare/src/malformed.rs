@@ -22,15 +22,12 @@ pub fn values(code: u8) -> Vec<Vec<u8>> {
     match code {
         UTI => utis(),
         ACTION_TYPE => list(&[
-            "newt", "NEW", "NEWTS", "MARU", "NEWT ", " NEWT", "TERN", "valu", "VALUE", "VAL",
-            "VALO",
+            "newt", "NEW", "NEWTS", "VALU", "MARU", "NEWT ", " NEWT", "TERN",
         ]),
         EVENT_TYPE => list(&[
             "trad", "TRA", "TRADE", "TR4D", "TRA ", "T", "@RAD", "TRA[", "Trad", "----",
         ]),
-        EVENT_TIMESTAMP | REPORTING_TIMESTAMP | EXECUTION_TIMESTAMP | VALUATION_TIMESTAMP => {
-            times()
-        }
+        EVENT_TIMESTAMP | REPORTING_TIMESTAMP | EXECUTION_TIMESTAMP => times(),
         EFFECTIVE_DATE | EXPIRATION_DATE | SETTLEMENT_DATE => dates(),
         CLEARED => list(&["y", "YES", " ", "X", "NN", "n", "i", "Y ", "T"]),
         _ if TRUTH_CODES.contains(&code) => truths(),
@@ -39,12 +36,8 @@ pub fn values(code: u8) -> Vec<Vec<u8>> {
         PACKAGE_PRICE | PACKAGE_SPREAD => prices(),
         PRICE_NOTATION => list(&["2", "0", "4", "11", "1 ", " 3", "I", "-1", "1.0"]),
         SPREAD_NOTATION => list(&["2", "0", "5", "14", "4 ", " 1", "I", "-4", "4.0", "04"]),
-        _ if CURRENCY_CODES.contains(&code) => currencies(),
+        PRICE_CURRENCY | NOTIONAL_CURRENCY | SPREAD_CURRENCY => currencies(),
         NOTIONAL_AMOUNT => amounts(),
-        VALUATION_AMOUNT => signed_amounts(),
-        VALUATION_METHOD => list(&[
-            "mtma", "Mtmo", "MTM", "MTMAX", "CCPVX", "CCP", "CCVP", "MTMB", "MTMO ", " MTMA", "M",
-        ]),
         SETTLEMENT_LOCATION => locations(),
         COUNTERPARTY_1 | COUNTERPARTY_2 => leis(),
         ASSET_CLASS => list(&["cr", "CRE", "C", "XX", "EQ ", "Fx", "OC", "IR\0", "CRIR"]),
@@ -201,27 +194,17 @@ fn prices() -> Vec<Vec<u8>> {
 
 fn amounts() -> Vec<Vec<u8>> {
     let mut values = no_numbers();
-    values.extend(list(&["-1", "-0", "-"]));
-    values.extend(list(&LONG_AMOUNTS));
-    values
-}
-
-/// Amounts with more digits than the form allows.
-const LONG_AMOUNTS: [&str; 6] = [
-    "12345678901234567890123456",
-    "00000000000000000000000000",
-    "123456789012345678901.23456",
-    "1.123456",
-    "0.000000",
-    "1234567890123456789012345.6",
-];
-
-fn signed_amounts() -> Vec<Vec<u8>> {
-    let mut values = no_numbers();
-    values.extend(list(&["-", "--1", "-.5", "-1.", "- 1", "-+1", "1-", "-1-"]));
-    for long in LONG_AMOUNTS {
-        values.extend(list(&[long, &format!("-{long}")]));
-    }
+    values.extend(list(&[
+        "-1",
+        "-0",
+        "-",
+        "12345678901234567890123456",
+        "00000000000000000000000000",
+        "123456789012345678901.23456",
+        "1.123456",
+        "0.000000",
+        "1234567890123456789012345.6",
+    ]));
     values
 }
 
@@ -331,7 +314,7 @@ mod tests {
     #[test]
     fn malformed_codes_are_in_no_list() {
         let mut random = Random::for_test(303);
-        for code in [19, 21, 22, 28, 31] {
+        for code in [19, 21, 22, 28] {
             let list = codes::list_of(code).expect("the element has a list");
             let drawn: Vec<Vec<u8>> = (0..1_000).map(|_| value(&mut random, code)).collect();
             let malformed = values(code).into_iter().chain(drawn.clone());

@@ -2,7 +2,6 @@
 
 use crate::lists::{
     statuses, ACTIONS_WITHOUT_LINE, FULL_ACTIONS, MATRIX, REPEATING_ACTIONS, STEPS,
-    VALUATION_ACTIONS,
 };
 
 /// The events that go with an action; none means no event.
@@ -22,11 +21,6 @@ pub fn is_pair(action: &str, event: Option<&str>) -> bool {
 /// Whether a message with this action carries the terms of the swap.
 pub fn is_full(action: &str) -> bool {
     FULL_ACTIONS.contains(&action)
-}
-
-/// Whether a message with this action carries a valuation of the swap.
-pub fn is_valuation(action: &str) -> bool {
-    VALUATION_ACTIONS.contains(&action)
 }
 
 /// Whether an action repeats the stored execution time.

@@ -4,17 +4,9 @@ use crate::layout::{COUNT_SIZE, ENTRY_SIZE, OFFSET_IN_ENTRY, U16_SIZE};
 use crate::lists::{codes, is_code, LAST_CODE};
 
 /// The elements of a message by code.
-#[derive(Clone, Debug, PartialEq, Eq)]
+#[derive(Clone, Debug, Default, PartialEq, Eq)]
 pub struct Message {
     values: [Option<Vec<u8>>; LAST_CODE as usize + 1],
-}
-
-impl Default for Message {
-    fn default() -> Self {
-        Message {
-            values: [const { None }; LAST_CODE as usize + 1],
-        }
-    }
 }
 
 impl Message {

@@ -5,7 +5,7 @@ use crate::cycles::{next_message, Model};
 use crate::faults::{self, Case, Fault};
 use crate::garbage;
 use crate::judge::Judge;
-use crate::layout::{self, values_size_beside, DAY_CAPS, DAY_ROWS, ROW_SIZE};
+use crate::layout::{self, DAY_CAPS, DAY_ROWS, ROW_SIZE};
 use crate::lists::ACTIONS;
 use crate::random::Random;
 use crate::tally::Tally;
@@ -49,19 +49,17 @@ impl Mix {
         tally
     }
 
-    /// Makes one submission and asks for one status, with the valuation beside
-    /// it, or for the totals.
+    /// Makes one submission and asks for one status or for the totals.
     pub fn step(&mut self) -> Result<(), Mismatch> {
         if self.steps.is_multiple_of(LIFE) {
             self.open()?;
         }
         self.steps += 1;
-        match self.random.below(9) {
+        match self.random.below(8) {
             0 => self.faulty(),
             1 => self.flipped_message(),
             2 => self.flipped_ledger(),
-            3 => self.flipped_values(),
-            4 => self.wild(),
+            3 => self.wild(),
             _ => self.life(),
         }
     }
@@ -71,11 +69,9 @@ impl Mix {
         let rows = *self.random.pick(&[1, 2, 3, 7, 20, 60, DAY_ROWS]);
         let length = layout::ledger_size(rows) + self.random.below(ROW_SIZE);
         let caps = values::caps(&mut self.random);
-        let values = values::table(&mut self.random, rows);
         self.long.set_ledger(&self.random.bytes(length));
-        self.long.set_values(&values);
         self.long.try_open(&caps)?;
-        self.model = Model::opened_beside(length, caps, values);
+        self.model = Model::opened(length, caps);
         self.utis = values::utis(&mut self.random, (rows + 2).min(80));
         Ok(())
     }
@@ -88,13 +84,12 @@ impl Mix {
         self.long.set_tape(&tape);
         let answer = self.long.try_submit(&message.encode())?;
         let due = self.model.submit(&message, length);
-        let same = (answer.verdict, answer.element, answer.identifier)
-            == (due.verdict, due.element, due.identifier);
+        let same = (answer.verdict, answer.identifier) == (due.verdict, due.identifier);
         let line = match &due.line {
             Some(line) => self.long.tape().starts_with(line),
             None => self.long.tape() == tape,
         };
-        if !same || !line || self.long.values() != self.model.values {
+        if !same || !line {
             return Err(Mismatch::new(
                 &message.encode(),
                 answer,
@@ -119,10 +114,6 @@ impl Mix {
         if (answer.status, answer.identifier) != due {
             return Err(Mismatch::new(uti, answer, "the model says otherwise"));
         }
-        let answer = self.long.try_valuation(uti)?;
-        if answer.record != self.model.valuation(uti) {
-            return Err(Mismatch::new(uti, answer, "the model says otherwise"));
-        }
         Ok(())
     }
 
@@ -133,7 +124,6 @@ impl Mix {
         let chosen = faults::some(&mut self.random, &self.faults, action, 4);
         let due = case.break_rules(&mut self.random, &chosen);
         self.single.set_ledger(&case.ledger());
-        self.single.set_values(&case.values);
         self.single.set_tape(&case.tape());
         let message = case.message();
         let answer = self.single.try_submit(&message)?;
@@ -149,29 +139,8 @@ impl Mix {
         let message = next_message(&mut self.random, &self.model, &self.utis);
         let mut bytes = message.encode();
         garbage::flip(&mut self.random, &mut bytes);
-        self.lend_long();
-        self.submit_single(&bytes)
-    }
-
-    /// Lends ledger and valuation table of the life cycle.
-    fn lend_long(&mut self) {
         self.single.set_ledger(self.long.ledger());
-        self.single.set_values(self.long.values());
-    }
-
-    /// The valuation table of the life cycle with some bytes changed, or one of
-    /// any length.
-    fn flipped_values(&mut self) -> Result<(), Mismatch> {
-        let message = next_message(&mut self.random, &self.model, &self.utis);
-        let mut values = self.long.values().to_vec();
-        if self.random.once_in(4) {
-            values = garbage::noise(&mut self.random, 2 * values.len());
-        } else {
-            garbage::flip(&mut self.random, &mut values);
-        }
-        self.lend_long();
-        self.single.set_values(&values);
-        self.submit_single(&message.encode())
+        self.submit_single(&bytes)
     }
 
     /// The ledger of the life cycle with some bytes changed, or some totals.
@@ -184,7 +153,6 @@ impl Mix {
         } else {
             garbage::flip(&mut self.random, &mut ledger[..used]);
         }
-        self.lend_long();
         self.single.set_ledger(&ledger);
         self.submit_single(&message.encode())
     }
@@ -192,12 +160,10 @@ impl Mix {
     /// Random bytes, or a message with wild codes and offsets.
     fn wild(&mut self) -> Result<(), Mismatch> {
         if self.random.once_in(4) {
-            let ledger = garbage::noise(&mut self.random, 600);
-            let values = self.random.bytes(values_size_beside(ledger.len()));
-            self.single.set_ledger(&ledger);
-            self.single.set_values(&values);
+            self.single
+                .set_ledger(&garbage::noise(&mut self.random, 600));
         } else {
-            self.lend_long();
+            self.single.set_ledger(self.long.ledger());
         }
         let message = if self.random.once_in(3) {
             garbage::noise(&mut self.random, 3000)

@@ -7,18 +7,13 @@ use sdr::{ACCEPTED, DATES_DISORDERED, LAYOUT_WRONG};
 pub const OPENING: [u8; 2] = [1, 2];
 
 /// The rules of a submission.
-pub const SUBMITTING: [u8; 19] = [
-    3, 20, 4, 5, 6, 7, 8, 9, 10, 11, 19, 12, 13, 14, 15, 21, 16, 17, 18,
-];
+pub const SUBMITTING: [u8; 17] = [3, 4, 5, 6, 7, 8, 9, 10, 11, 19, 12, 13, 14, 15, 16, 17, 18];
 
 /// The rules of a status question.
 pub const ASKING: [u8; 3] = [3, 9, 14];
 
 /// The rules of a totals question.
 pub const TOTALS: [u8; 1] = [3];
-
-/// The rules of a valuation question.
-pub const VALUATION: [u8; 4] = [3, 20, 9, 14];
 
 /// The rules of a submission that name an element.
 pub const NAMING_AN_ELEMENT: [u8; 5] = [6, 7, 8, 9, 11];
@@ -84,7 +79,6 @@ mod tests {
         assert_eq!(listed("sdr_submit"), SUBMITTING);
         assert_eq!(listed("sdr_status"), ASKING);
         assert_eq!(listed("sdr_totals"), TOTALS);
-        assert_eq!(listed("sdr_valuation"), VALUATION);
     }
 
     #[test]
@@ -105,10 +99,6 @@ mod tests {
         assert_eq!(first_of(&[18]), 18);
         assert_eq!(first_of(&[12, 19, 13]), 19);
         assert_eq!(first_of(&[19, 11]), 11);
-        assert_eq!(first_of(&[4, 20]), 20);
-        assert_eq!(first_of(&[20, 3]), 3);
-        assert_eq!(first_of(&[16, 21]), 21);
-        assert_eq!(first_of(&[21, 15]), 15);
         assert_eq!(first_of(&[]), 0);
     }
 }

@@ -82,7 +82,6 @@ pub fn disguised(random: &mut Random, message: &Message, caps: &Caps) -> Message
     let mut other = message.clone();
     if !message.has(EXECUTION_TIMESTAMP) {
         other.set(REPORTING_TIMESTAMP, values::time(random));
-        revalue(random, &mut other);
         return other;
     }
     sound::set_execution(random, &mut other, message.value(EXECUTION_TIMESTAMP));
@@ -107,16 +106,6 @@ pub fn disguised(random: &mut Random, message: &Message, caps: &Caps) -> Message
     );
     change_left_out(random, &mut other);
     other
-}
-
-/// Gives a valuation other values.
-pub fn revalue(random: &mut Random, message: &mut Message) {
-    let other = sound::message(random, "VALU", b"");
-    for code in NEEDED_BY_VALUATION {
-        if message.has(code) {
-            message.set(code, other.value(code));
-        }
-    }
 }
 
 fn spell_truth_otherwise(random: &mut Random, message: &mut Message, code: u8) {
@@ -178,7 +167,7 @@ mod tests {
             }
         }
         // What is shown as it is sent does not differ, the rest often does.
-        for code in codes_taken_by("MODI") {
+        for code in codes() {
             let alike = [1, 6, 7, 8, 10, 21, 22, 25].contains(&code);
             let often = differing[usize::from(code)] > 200;
             assert_eq!(often, !alike, "{code}");

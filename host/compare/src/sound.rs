@@ -2,7 +2,7 @@
 
 use crate::layout::{Num, BASIS_POINTS_NUM, DECIMAL_NUM, PRICE_NUM};
 use crate::lists::*;
-use crate::matrix::{events_of, is_full, is_valuation};
+use crate::matrix::{events_of, is_full};
 use crate::message::Message;
 use crate::random::Random;
 use crate::terms::{applies, is_package, is_quoted_by};
@@ -14,13 +14,10 @@ pub fn message(random: &mut Random, action: &str, uti: &[u8]) -> Message {
     if is_full(action) {
         set_terms(random, &mut message);
     }
-    if is_valuation(action) {
-        set_valuation(random, &mut message);
-    }
     message
 }
 
-/// The elements that messages of every kind have, and the event.
+/// The elements that short messages have too.
 pub fn without_terms(random: &mut Random, action: &str, uti: &[u8]) -> Message {
     let mut message = Message::default();
     message.set(UTI, uti).set(ACTION_TYPE, action);
@@ -68,13 +65,6 @@ fn set_terms(random: &mut Random, message: &mut Message) {
     message.set(COUNTERPARTY_1, values::lei(random));
     message.set(COUNTERPARTY_2, values::lei(random));
     message.set(ASSET_CLASS, random.pick(&CLASSES));
-}
-
-fn set_valuation(random: &mut Random, message: &mut Message) {
-    message.set(VALUATION_AMOUNT, values::signed_amount(random));
-    message.set(VALUATION_CURRENCY, values::currency(random));
-    message.set(VALUATION_TIMESTAMP, values::time(random));
-    message.set(VALUATION_METHOD, random.pick(&METHODS));
 }
 
 fn set_dates(random: &mut Random, message: &mut Message) {
@@ -232,8 +222,7 @@ pub fn plain_quoted_by(quote: &Quote, notation: &str, number: &str) -> Message {
     message
 }
 
-/// A short message (TERM, EROR or PRTO) about the plain swap, or the elements
-/// that a valuation has too.
+/// A short message (TERM, EROR or PRTO) about the plain swap.
 pub fn plain_short(action: &str, event: Option<&str>) -> Message {
     let mut message = Message::default();
     message
@@ -247,21 +236,9 @@ pub fn plain_short(action: &str, event: Option<&str>) -> Message {
     message
 }
 
-/// A valuation of the plain swap.
-pub fn plain_valuation() -> Message {
-    let mut message = plain_short("VALU", None);
-    message
-        .set(VALUATION_AMOUNT, "-1250000.5")
-        .set(VALUATION_CURRENCY, "EUR")
-        .set(VALUATION_TIMESTAMP, "2024-04-01T16:00:00Z")
-        .set(VALUATION_METHOD, "MTMA");
-    message
-}
-
 #[cfg(test)]
 mod tests {
     use super::*;
-    use crate::layout::VALUATION_AMOUNT_SIZE;
     use crate::terms::says;
 
     fn messages() -> Vec<Message> {
@@ -287,28 +264,6 @@ mod tests {
                 };
                 assert!(messages.iter().filter(fitting).count() > 100, "{notation}");
             }
-        }
-    }
-
-    /// As long as they can be, of every method, with and without a minus.
-    #[test]
-    fn valuations_differ() {
-        let mut random = Random::for_test(304);
-        let uti = uti_of(1);
-        let next = |_| message(&mut random, "VALU", uti.as_bytes());
-        let messages: Vec<Message> = (0..2_000).map(next).collect();
-        let count = |is_one: &dyn Fn(&Message) -> bool| {
-            let found = messages.iter().filter(|message| is_one(message));
-            found.count()
-        };
-        let taken: Vec<u8> = codes_taken_by("VALU").collect();
-        assert_eq!(count(&|message| message.codes() == taken), 2_000);
-        let negative = count(&|message| message.value(VALUATION_AMOUNT).starts_with(b"-"));
-        assert!((500..900).contains(&negative), "{negative}");
-        let longest = VALUATION_AMOUNT_SIZE;
-        assert!(count(&|message| message.value(VALUATION_AMOUNT).len() == longest) > 5);
-        for method in METHODS {
-            assert!(count(&|message| says(message, VALUATION_METHOD, method)) > 500);
         }
     }
 

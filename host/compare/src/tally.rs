@@ -17,7 +17,7 @@ pub struct Tally {
     pub openings: u64,
     /// Messages submitted.
     pub submissions: u64,
-    /// Questions for a status, for the totals or for a valuation.
+    /// Questions for a status or for the totals.
     pub questions: u64,
     answers: [[u64; CODES]; VERDICTS],
 }

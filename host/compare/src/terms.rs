@@ -7,14 +7,14 @@ use crate::message::Message;
 use std::ops::Range;
 
 /// One unit of currency, counted in the last place that a notional can have.
-pub const UNIT: u128 = 10u128.pow(AMOUNT_NUM.after_point as u32);
+pub const UNIT: u128 = 10u128.pow(NOTIONAL_NUM.after_point as u32);
 
 /// A sound amount, counted in units of its last possible place.
 pub fn exact(amount: &[u8]) -> u128 {
     let mut parts = amount.splitn(2, |&byte| byte == b'.');
     let mut digits = parts.next().unwrap_or_default().to_vec();
     let mut after = parts.next().unwrap_or_default().to_vec();
-    after.resize(AMOUNT_NUM.after_point, b'0');
+    after.resize(NOTIONAL_NUM.after_point, b'0');
     digits.append(&mut after);
     digits
         .iter()
@@ -136,7 +136,7 @@ pub fn terms_of(message: &Message, caps: &Caps) -> [u8; TERMS_SIZE] {
 }
 
 /// Whether a line is due for a message about a swap with these stored terms, or
-/// without any: for every one but a PRTO, a VALU and a MODI that repeats them.
+/// without any: for every one but a PRTO and a MODI that repeats them.
 pub fn line_is_due(message: &Message, stored: Option<&[u8; TERMS_SIZE]>, caps: &Caps) -> bool {
     let action = message.text(ACTION_TYPE);
     if ACTIONS_WITH_NEW_TERMS.contains(&action.as_str()) {

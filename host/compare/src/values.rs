@@ -1,15 +1,12 @@
 //! Random values that keep their form.
 
 use crate::codes::{CURRENCIES, LOCATIONS};
-use crate::layout::RECORD_SIZE;
 use crate::layout::{Caps, Num, DATE_SIZE, DAY_CAPS, LARGEST_CAP, LEI_BODY_SIZE, LINE_SIZE};
-use crate::layout::{Record, AMOUNT_NUM, HELD, HELD_IN_RECORD, LONGEST_PACKAGE_IDENTIFIER};
+use crate::layout::{LONGEST_PACKAGE_IDENTIFIER, NOTIONAL_NUM};
 use crate::layout::{NOTIONAL_SIZE, SHORTEST_UTI, SMALLEST_CAP, TOTALS, UTI_SIZE};
 use crate::lists::{BANDS, CLASSES, LARGEST_STEP};
 use crate::random::Random;
-use crate::sound;
 use crate::terms::{masked, rounded, shown_price, UNIT};
-use crate::valuations::record_of;
 
 /// Capitals and digits.
 pub const CAPITALS_DIGITS: &[u8] = b"ABCDEFGHIJKLMNOPQRSTUVWXYZ0123456789";
@@ -173,18 +170,6 @@ pub fn time_from(random: &mut Random, earliest: &[u8]) -> Vec<u8> {
     earliest.to_vec()
 }
 
-/// A time that is before another, or as early as can be.
-pub fn time_before(random: &mut Random, latest: &[u8]) -> Vec<u8> {
-    let mut other = time(random);
-    if other.as_slice() >= latest {
-        other[..DATE_SIZE].copy_from_slice(b"1900-01-01");
-    }
-    if other.as_slice() >= latest {
-        return b"1900-01-01T00:00:00Z".to_vec();
-    }
-    other
-}
-
 /// A currency of the list.
 pub fn currency(random: &mut Random) -> Vec<u8> {
     random.pick(&CURRENCIES).as_bytes().to_vec()
@@ -216,8 +201,8 @@ pub fn amount(random: &mut Random) -> Vec<u8> {
 
 /// An amount of any length that the form allows.
 fn any_amount(random: &mut Random) -> Vec<u8> {
-    let digits = random.between(1, AMOUNT_NUM.digits);
-    if digits + AMOUNT_NUM.after_point <= AMOUNT_NUM.digits {
+    let digits = random.between(1, NOTIONAL_NUM.digits);
+    if digits + NOTIONAL_NUM.after_point <= NOTIONAL_NUM.digits {
         return with_decimals(random, digits);
     }
     random.text(digits, DIGITS)
@@ -227,29 +212,9 @@ fn with_decimals(random: &mut Random, digits: usize) -> Vec<u8> {
     let mut text = random.text(digits, DIGITS);
     if random.once_in(2) {
         text.push(b'.');
-        let after = random.between(1, AMOUNT_NUM.after_point);
+        let after = random.between(1, NOTIONAL_NUM.after_point);
         text.extend(random.text(after, DIGITS));
     }
-    text
-}
-
-/// An amount that keeps the form of a valuation amount.
-pub fn signed_amount(random: &mut Random) -> Vec<u8> {
-    let amount = match random.below(20) {
-        0 => longest_amount(random),
-        1 => b"0".to_vec(),
-        _ => amount(random),
-    };
-    let minus: &[u8] = if random.once_in(3) { b"-" } else { b"" };
-    [minus, &amount].concat()
-}
-
-/// All digits that the form allows, and a point.
-fn longest_amount(random: &mut Random) -> Vec<u8> {
-    let after = random.between(1, AMOUNT_NUM.after_point);
-    let mut text = random.text(AMOUNT_NUM.digits - after, DIGITS);
-    text.push(b'.');
-    text.extend(random.text(after, DIGITS));
     text
 }
 
@@ -293,7 +258,7 @@ pub fn amount_masked_alike(random: &mut Random, amount: &[u8], cap: u64) -> Vec<
             1 => self::amount(random),
             _ => [b"0", amount].concat(),
         };
-        if other != amount && has_at_most(&other, AMOUNT_NUM) && masked(&other, cap) == due {
+        if other != amount && has_at_most(&other, NOTIONAL_NUM) && masked(&other, cap) == due {
             return other;
         }
     }
@@ -390,68 +355,4 @@ pub fn totals(random: &mut Random, rows: u32) -> [u32; TOTALS] {
         totals[random.below(TOTALS)] += 1;
     }
     totals
-}
-
-/// A valuation table for so many rows with any records.
-pub fn table(random: &mut Random, rows: usize) -> Vec<u8> {
-    (0..rows).flat_map(|_| record(random)).collect()
-}
-
-/// A record: zeros, one that a valuation wrote, or any bytes, held or not.
-pub fn record(random: &mut Random) -> Record {
-    let mut record = match random.below(4) {
-        0 => return [0; RECORD_SIZE],
-        1 => std::array::from_fn(|_| random.bits() as u8),
-        _ => record_of(&sound::message(random, "VALU", b"")),
-    };
-    if random.once_in(3) {
-        record[HELD_IN_RECORD] = *random.pick(&[0, HELD, HELD + 1, 0x81, 0xff]);
-    }
-    record
-}
-
-/// Bytes that come after these, often by little.
-pub fn bytes_after(random: &mut Random, bytes: &[u8]) -> Vec<u8> {
-    let at = random.below(bytes.len());
-    let mut later = bytes.to_vec();
-    later[at] = match random.below(3) {
-        0 => u8::MAX,
-        _ => bytes[at] + 1,
-    };
-    if random.once_in(2) {
-        let rest = random.bytes(bytes.len() - at - 1);
-        later[at + 1..].copy_from_slice(&rest);
-    }
-    later
-}
-
-#[cfg(test)]
-mod tests {
-    use super::*;
-    use crate::layout::TIME_IN_RECORD;
-
-    #[test]
-    fn times_before_and_bytes_after() {
-        let mut random = Random::for_test(305);
-        for _ in 0..2_000 {
-            let one = time(&mut random);
-            assert!(time_before(&mut random, &one) < one || one.starts_with(b"1900-01-01"));
-            assert!(bytes_after(&mut random, &one) > one);
-        }
-    }
-
-    #[test]
-    fn records_are_of_all_kinds() {
-        let mut random = Random::for_test(306);
-        let records: Vec<Record> = (0..2_000).map(|_| record(&mut random)).collect();
-        let zeros = records.iter().filter(|record| **record == [0; RECORD_SIZE]);
-        let held = records
-            .iter()
-            .filter(|record| record[HELD_IN_RECORD] == HELD);
-        let is_time = |record: &&Record| record[TIME_IN_RECORD].ends_with(b"Z");
-        assert!(zeros.count() > 300 && held.clone().count() > 700);
-        // Some that are held have no time.
-        assert!(held.clone().filter(|record| !is_time(record)).count() > 10);
-        assert!(records.iter().filter(is_time).count() > held.count());
-    }
 }

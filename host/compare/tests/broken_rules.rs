@@ -4,8 +4,8 @@
 use compare::compared::Compared;
 use compare::faults::{self, Case, Fault};
 use compare::layout::{ledger_size, HEADER_SIZE, IDENTIFIER_LIMIT, SHORTEST_LEDGER};
-use compare::lists::{codes_not_taken_by_all, codes_taken_by, codes_with_a_form, ACTIONS};
-use compare::lists::{CLASSES, CONDITIONAL, NEEDED_BY_ALL, NEEDED_BY_FULL, NEEDED_BY_VALUATION};
+use compare::lists::{codes, codes_of_full_messages, codes_with_a_form, takes, ACTIONS};
+use compare::lists::{CLASSES, CONDITIONAL, NEEDED_BY_ALL, NEEDED_BY_FULL};
 use compare::malformed;
 use compare::message::described;
 use compare::order::{OPENING, SUBMITTING};
@@ -22,7 +22,6 @@ fn try_faults(compared: &mut Compared, random: &mut Random, action: &str, faults
 
 fn submit(compared: &mut Compared, case: &Case, due: (u8, u8), text: &str) {
     compared.set_ledger(&case.ledger());
-    compared.set_values(&case.values);
     compared.set_tape(&case.tape());
     let message = case.message();
     let answer = compared.submit(&message);
@@ -33,11 +32,6 @@ fn submit(compared: &mut Compared, case: &Case, due: (u8, u8), text: &str) {
     assert_eq!(answer.identifier, identifier, "{text}");
     let stays = compared.tape() == case.tape();
     assert_eq!(stays, !line_due, "{text}");
-    if due.0 == 0 {
-        assert!(compared.values() == case.values_after(), "{text}");
-    } else {
-        assert!(compared.values() == case.values, "{text}");
-    }
 }
 
 /// The faults that a message of the action can have.
@@ -58,7 +52,7 @@ fn sound_cases_are_accepted() {
             without_line += u32::from(!case.line_is_due());
         }
         match action {
-            "PRTO" | "VALU" => assert_eq!(without_line, 300),
+            "PRTO" => assert_eq!(without_line, 300),
             // One in three repeats the stored terms.
             "MODI" => assert!((60..150).contains(&without_line), "{without_line}"),
             _ => assert_eq!(without_line, 0, "{action}"),
@@ -84,8 +78,8 @@ fn spent_identifiers_and_no_line_due() {
         }
     }
     println!("spent identifiers: {}", compared.tally);
-    // Those accepted are the PRTOs, the VALUs and one MODI in three.
-    assert!((330..375).contains(&compared.tally.verdict(0)));
+    // Those accepted are the PRTOs and one MODI in three.
+    assert!((180..225).contains(&compared.tally.verdict(0)));
 }
 
 #[test]
@@ -117,10 +111,8 @@ fn two_rules_broken() {
         }
     }
     println!("two rules: {}", compared.tally);
-    // The last rule is never the first of two. Nor is 21: a valuation can break
-    // none of the rules behind it.
-    let first_of_two = SUBMITTING.iter().filter(|rule| ![18, 21].contains(*rule));
-    every_verdict_was_met(&compared.tally, &first_of_two.copied().collect::<Vec<u8>>());
+    // The last rule is never the first of two.
+    every_verdict_was_met(&compared.tally, &SUBMITTING[..SUBMITTING.len() - 1]);
     every_element_was_met(&compared.tally);
 }
 
@@ -142,7 +134,7 @@ fn every_malformed_value() {
     let mut random = Random::for_test(105);
     let mut compared = Compared::new();
     for action in ACTIONS {
-        for code in codes_taken_by(action) {
+        for code in codes().filter(|&code| takes(action, code)) {
             for value in malformed::values(code) {
                 let mut case = Case::sound(&mut random, action);
                 case.message.set(code, &value);
@@ -199,10 +191,10 @@ fn every_verdict_was_met(tally: &Tally, verdicts: &[u8]) {
 /// Every element that 6, 7, 8, 9 and 11 can name was named.
 fn every_element_was_met(tally: &Tally) {
     assert!(tally.element(6, 2) > 0);
-    for code in [&NEEDED_BY_ALL[..], &NEEDED_BY_FULL, &NEEDED_BY_VALUATION].concat() {
+    for code in NEEDED_BY_ALL.into_iter().chain(NEEDED_BY_FULL) {
         assert!(tally.element(7, code) > 0, "7 with {code}");
     }
-    for code in codes_not_taken_by_all() {
+    for code in codes_of_full_messages() {
         assert!(tally.element(8, code) > 0, "8 with {code}");
     }
     for code in codes_with_a_form() {

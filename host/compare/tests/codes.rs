@@ -4,14 +4,14 @@
 use compare::codes::{of_capitals, CURRENCIES, LOCATIONS};
 use compare::compared::Compared;
 use compare::layout::{self, ledger_size, row_range, Header, Row, DAY_CAPS, LINE_SIZE};
-use compare::layout::{record_range, CURRENCY_IN_RECORD, TERMS_IN_LINE, TERMS_IN_ROW};
 use compare::layout::{IDENTIFIER_LIMIT, LOCATION_IN_LINE, NOTIONAL_CURRENCY_IN_LINE};
 use compare::layout::{PRICE_CURRENCY_IN_LINE, SHORTEST_LEDGER, SPREAD_CURRENCY_IN_LINE};
-use compare::lists::{codes_taken_by, ACTION_TYPE};
+use compare::layout::{TERMS_IN_LINE, TERMS_IN_ROW};
+use compare::lists::codes_with_a_form;
 use compare::malformed;
 use compare::message::{readable, Message};
 use compare::random::Random;
-use compare::sound::{plain_new, plain_package, plain_short, plain_spread, plain_valuation, swap};
+use compare::sound::{plain_new, plain_package, plain_short, plain_spread, swap};
 use compare::submissions;
 use compare::terms::terms_of;
 use std::ops::Range;
@@ -56,8 +56,7 @@ struct Place {
     message: Message,
     element: u8,
     list: &'static [&'static str],
-    /// Where the line shows it; none for a valuation, whose record has it.
-    column: Option<Range<usize>>,
+    column: Range<usize>,
     /// Whether the element counts; else it is left out.
     counts: bool,
 }
@@ -66,10 +65,9 @@ impl Place {
     /// A place of a currency.
     fn currency(name: &'static str, element: u8, message: Message) -> Place {
         let column = match element {
-            19 => Some(PRICE_CURRENCY_IN_LINE),
-            21 => Some(NOTIONAL_CURRENCY_IN_LINE),
-            28 => Some(SPREAD_CURRENCY_IN_LINE),
-            _ => None,
+            19 => PRICE_CURRENCY_IN_LINE,
+            21 => NOTIONAL_CURRENCY_IN_LINE,
+            _ => SPREAD_CURRENCY_IN_LINE,
         };
         Place {
             name,
@@ -81,45 +79,25 @@ impl Place {
         }
     }
 
-    /// A fresh ledger, with the swap where one is valued.
-    fn opened(&self) -> Compared {
-        let mut compared = opened();
-        if self.column.is_none() {
-            assert_eq!(submitted(&mut compared, &plain_new()), (0, 0));
-        }
-        compared
-    }
-
-    /// Submits the message with this value to such a ledger. The answer is what
-    /// is due. A refusal changes nothing; a line shows the value, or spaces where
-    /// it is left out, or the record has it.
+    /// Submits the message with this value to a fresh ledger. The answer is
+    /// what is due. A refusal changes nothing; a line shows the value, or
+    /// spaces where it is left out.
     fn check(&self, value: &[u8], due: Due) {
         let text = format!("{}: {}", self.name, readable(value));
-        let mut compared = self.opened();
-        let bytes = |compared: &Compared| {
-            [compared.ledger(), compared.values(), compared.tape()].map(<[u8]>::to_vec)
-        };
-        let before = bytes(&compared);
+        let mut compared = opened();
+        let before = [compared.ledger(), compared.tape()].map(<[u8]>::to_vec);
         let message = self.message.with(self.element, value);
         let answer = compared.submit(&message.encode());
         assert_eq!((answer.verdict, answer.element), due, "{text}");
         if due != (0, 0) {
             assert_eq!(answer.identifier, 0, "{text}");
-            assert_eq!(bytes(&compared), before, "{text}");
+            assert_eq!([compared.ledger(), compared.tape()], before, "{text}");
             return;
         }
-        assert_eq!(
-            answer.identifier,
-            u64::from(self.column.is_some()),
-            "{text}"
-        );
-        let found = match &self.column {
-            Some(column) => &compared.tape()[column.clone()],
-            None => &compared.values()[record_range(0)][CURRENCY_IN_RECORD],
-        };
+        assert_eq!(answer.identifier, 1, "{text}");
         let spaces = vec![b' '; value.len()];
         let shown = if self.counts { value } else { &spaces };
-        assert_eq!(found, shown, "{text}");
+        assert_eq!(compared.tape()[self.column.clone()], *shown, "{text}");
     }
 
     /// The value is refused: it breaks the element's form.
@@ -169,7 +147,6 @@ fn counting() -> Vec<Place> {
         Place::currency("notional currency", 21, plain_new()),
         Place::currency("price currency", 19, plain_package("1", "5")),
         Place::currency("spread currency", 28, plain_spread("1", "5")),
-        Place::currency("valuation currency", 31, plain_valuation()),
     ]
 }
 
@@ -207,7 +184,7 @@ fn location() -> Place {
         message: plain_new(),
         element: 22,
         list: &LOCATIONS,
-        column: Some(LOCATION_IN_LINE),
+        column: LOCATION_IN_LINE,
         counts: true,
     }
 }
@@ -490,8 +467,7 @@ fn offshore_yuan() {
 
 // The life of a swap.
 
-/// The elements of full messages that have a list, and for each a value that is
-/// not in it.
+/// The elements that have a list, and for each a value that is not in it.
 const FAULTS: [(u8, &str); 4] = [(19, "CNH"), (21, "CNH"), (22, "XK"), (28, "CNH")];
 
 /// The message with all these faults.
@@ -644,8 +620,7 @@ fn an_element_with_a_lower_code_is_named_first() {
     for (element, value) in FAULTS {
         let wrong = plain_new().with(element, value);
         assert_eq!(judged(&wrong), (9, element));
-        let others = codes_taken_by("NEWT").filter(|&other| other != ACTION_TYPE);
-        for other in others.filter(|&other| other != element) {
+        for other in codes_with_a_form().filter(|&other| other != element) {
             for malformed in malformed::values(other) {
                 let message = wrong.with(other, malformed);
                 let due = (9, element.min(other));

@@ -9,7 +9,7 @@ use compare::layout::{DAY_ROWS, LARGEST_LENGTH, LENGTH_SIZE, LONGEST_MESSAGE};
 use compare::message::Message;
 use compare::order;
 use compare::random::Random;
-use compare::sound::{plain_new, plain_short, plain_valuation, uti_of};
+use compare::sound::{plain_new, plain_short, uti_of};
 use compare::submissions;
 use compare::tally::Tally;
 use sdr::Answer;
@@ -80,22 +80,9 @@ fn small_day() -> Vec<(Vec<u8>, &'static str)> {
         (plain_modi().encode(), "4 0 0 2"),
         (plain_modi().with(14, "POST").encode(), "5 0 0 0"),
         (end.with(6, "x").encode(), "6 8 6 0"),
-        (plain_valuation().encode(), "7 0 0 0"),
-        (
-            plain_valuation().with(32, "2024-04-01T15:59:59Z").encode(),
-            "8 21 0 0",
-        ),
-        (port.encode(), "9 0 0 0"),
-        (end.encode(), "10 15 0 0"),
-        (new_swap(7), "11 0 0 3"),
-        // A first valuation may be of any time.
-        (
-            plain_valuation()
-                .with(1, uti_of(7))
-                .with(32, "1900-01-01T00:00:00Z")
-                .encode(),
-            "12 0 0 0",
-        ),
+        (port.encode(), "7 0 0 0"),
+        (end.encode(), "8 15 0 0"),
+        (new_swap(7), "9 0 0 3"),
     ]
 }
 
@@ -105,7 +92,7 @@ fn a_day_cut_at_every_byte() {
     let messages: Vec<Vec<u8>> = day.iter().map(|(message, _)| message.clone()).collect();
     let bytes = days::of(&messages);
     // after so many messages, so many lines are on the tape
-    let published = [0, 0, 1, 1, 2, 2, 2, 2, 2, 2, 2, 3, 3];
+    let published = [0, 0, 1, 1, 2, 2, 2, 2, 2, 3];
     let (mut judged, mut end) = (0, 0);
     for cut in 0..=bytes.len() {
         if judged < day.len() && cut == end + LENGTH_SIZE + messages[judged].len() {
@@ -118,7 +105,7 @@ fn a_day_cut_at_every_byte() {
         due.push(&last);
         check_file(&bytes[..cut], &lines(&due), &format!("cut at {cut}"));
     }
-    assert_eq!((judged, end), (12, bytes.len()));
+    assert_eq!((judged, end), (9, bytes.len()));
 }
 
 #[test]
@@ -233,7 +220,7 @@ fn random_days() {
     println!(
         "{number} random days, {cuts} of them cut, {silent} modifications without a line: {tally}"
     );
-    for verdict in [&[0], order::of_the_message(), &[15, 21, 16, 17]].concat() {
+    for verdict in [&[0], order::of_the_message(), &[15, 16, 17]].concat() {
         assert!(tally.verdict(verdict) > 0, "verdict {verdict}");
     }
     assert!(cuts > 0 && cuts < number);

@@ -1,10 +1,10 @@
-//! Bytes that no host would send: noise in all four buffers, wild codes and
+//! Bytes that no host would send: noise in all three buffers, wild codes and
 //! offsets, messages cut short or made longer.
 
 use compare::compared::Compared;
 use compare::garbage::{noise, wild_message};
 use compare::layout::{ledger_size, Header, DAY_CAPS, HEADER_SIZE, IDENTIFIER_LIMIT, LINE_SIZE};
-use compare::layout::{values_size_beside, LONGEST_MESSAGE, ROW_SIZE};
+use compare::layout::{LONGEST_MESSAGE, ROW_SIZE};
 use compare::lists::{codes_with_a_form, ACTIONS};
 use compare::random::Random;
 use compare::sound::{self, plain_new, plain_package, plain_spread};
@@ -16,16 +16,14 @@ fn noise_in_all_buffers() {
     let mut compared = Compared::new();
     let mut counted = 0;
     for _ in 0..submissions(25_000) {
-        let ledger = noise_ledger(&mut random);
-        compared.set_ledger(&ledger);
-        compared.set_values(&noise_values(&mut random, ledger.len()));
+        compared.set_ledger(&noise_ledger(&mut random));
         compared.set_tape(&noise(&mut random, 300));
         compared.submit(&noise(&mut random, LONGEST_MESSAGE + 50));
         compared.status(&noise(&mut random, 60));
         counted += u64::from(compared.totals().verdict == 0);
     }
     println!("noise: {}", compared.tally);
-    for verdict in [3, 4, 5, 20] {
+    for verdict in [3, 4, 5] {
         assert!(compared.tally.verdict(verdict) > 0, "verdict {verdict}");
     }
     // Every second header is sound.
@@ -46,14 +44,6 @@ fn noise_ledger(random: &mut Random) -> Vec<u8> {
     header.next = 1 + random.bits() % IDENTIFIER_LIMIT;
     ledger[..HEADER_SIZE].copy_from_slice(&header.encode());
     ledger
-}
-
-/// Noise of the length that the ledger asks for, or now and then of any.
-fn noise_values(random: &mut Random, ledger_length: usize) -> Vec<u8> {
-    if random.once_in(4) {
-        return noise(random, 300);
-    }
-    random.bytes(values_size_beside(ledger_length))
 }
 
 #[test]

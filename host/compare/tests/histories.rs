@@ -4,18 +4,15 @@
 use compare::compared::Compared;
 use compare::cycles::{next_message, Model};
 use compare::histories::{broken_premises, run, Call, History, Premise, Run};
-use compare::layout::{capacity, ledger_size, record_range, values_size, values_size_beside};
-use compare::layout::{Caps, DAY_CAPS, LINE_SIZE, NEXT_IN_HEADER, ROW_SIZE, SMALLEST_CAP};
-use compare::layout::{HELD, HELD_IN_RECORD, TIME_IN_RECORD};
-use compare::lists::VALUATION_TIMESTAMP;
-use compare::lists::{codes_not_taken_by, codes_taken_by, ACTION_TYPE, CLASSES, QUOTES};
+use compare::layout::{ledger_size, Caps, DAY_CAPS, LINE_SIZE, NEXT_IN_HEADER};
+use compare::layout::{ROW_SIZE, SMALLEST_CAP};
+use compare::lists::{codes_of_full_messages, codes_with_a_form, ACTION_TYPE, CLASSES, QUOTES};
 use compare::malformed;
 use compare::message::Message;
 use compare::random::Random;
 use compare::showing::disguised;
-use compare::sound::{self, plain_package, plain_spread, plain_valuation, swap};
+use compare::sound::{self, plain_package, plain_spread, swap};
 use compare::terms::{is_quoted_by, shown_price};
-use compare::valuations::record_of;
 use compare::values;
 use compare::{matrix, submissions};
 
@@ -23,103 +20,30 @@ use compare::{matrix, submissions};
 const SWAPS: usize = 8;
 const CALLS: usize = 30;
 
-/// A history under way: its model says what the valuation table holds.
-struct Side {
-    model: Model,
-    history: History,
-    /// Whether the last call was lent another table than the model's.
-    other_table: bool,
-}
-
-impl Side {
-    fn opened(random: &mut Random, length: usize, caps: Caps) -> Side {
-        let values = values::table(random, capacity(length));
-        Side {
-            model: Model::opened_beside(length, caps, values.clone()),
-            history: History {
-                ledger: random.bytes(length),
-                values,
-                caps,
-                tampering: (0, Vec::new()),
-                calls: Vec::new(),
-            },
-            other_table: false,
-        }
-    }
-
-    /// Adds a call, lent the model's table if it is not there already.
-    fn push(&mut self, mut call: Call) {
-        let other_table = call.values.is_some();
-        if self.other_table && !other_table {
-            call.values = Some(self.model.values.clone());
-        }
-        self.other_table = other_table;
-        self.history.calls.push(call);
-    }
-
-    /// Submits a message.
-    fn submit(&mut self, random: &mut Random, message: &Message) -> u8 {
-        self.push(call(random, message.encode()));
-        self.model.submit(message, LINE_SIZE).verdict
-    }
-
-    /// Between two calls the table gets other bytes: any beside rows that are
-    /// not in use, any valuation where one is held.
-    fn change_table(&mut self, random: &mut Random) {
-        for row in 0..self.model.header.capacity as usize {
-            let record = &mut self.model.values[record_range(row)];
-            if row >= self.model.rows.len() {
-                record.copy_from_slice(&values::record(random));
-            } else if record[HELD_IN_RECORD] == HELD {
-                let other = sound::message(random, "VALU", b"");
-                record.copy_from_slice(&record_of(&other));
-            }
-        }
-        self.other_table = true;
-    }
-
-    /// Gives a valuation a time that gets this verdict beside what is held here.
-    fn fit_time(&self, random: &mut Random, message: &mut Message, verdict: u8) {
-        let Some(held) = self.model.valuation(message.value(1)) else {
-            return;
-        };
-        if message.has(VALUATION_TIMESTAMP) {
-            let held = &held[TIME_IN_RECORD];
-            let time = match verdict {
-                21 => values::time_before(random, held),
-                _ => values::time_from(random, held),
-            };
-            message.set(VALUATION_TIMESTAMP, time);
-        }
-    }
-}
-
 /// Two histories that agree in what is public, and nothing more.
 fn pair_of_histories(random: &mut Random) -> (History, History) {
     let caps = values::caps(random);
     let (first_length, second_length) = lengths(random);
     let names = values::utis(random, 2 * SWAPS);
     let (utis, others) = names.split_at(SWAPS);
-    let mut first = Side::opened(random, first_length, caps);
-    let mut second = Side::opened(random, second_length, caps);
+    let mut model = Model::opened(first_length, caps);
+    let (mut first, mut second) = (Vec::new(), Vec::new());
     for _ in 0..CALLS {
-        if random.once_in(4) {
-            let calls = refused_pair(random);
-            first.push(calls.0);
-            second.push(calls.1);
-            continue;
-        }
-        if random.once_in(6) {
-            second.change_table(random);
-        }
-        let message = next_message(random, &first.model, utis);
-        let verdict = first.submit(random, &message);
-        let renamed = renamed(&message, utis, others);
-        let mut other = disguised(random, &renamed, &caps);
-        second.fit_time(random, &mut other, verdict);
-        second.submit(random, &other);
+        let calls = if random.once_in(4) {
+            refused_pair(random)
+        } else {
+            let message = next_message(random, &model, utis);
+            model.submit(&message, LINE_SIZE);
+            let renamed = renamed(&message, utis, others);
+            let other = disguised(random, &renamed, &caps);
+            (call(random, message.encode()), call(random, other.encode()))
+        };
+        first.push(calls.0);
+        second.push(calls.1);
     }
-    (first.history, second.history)
+    let first = history(random, first_length, caps, first);
+    let second = history(random, second_length, caps, second);
+    (first, second)
 }
 
 /// Two lengths: of one capacity that may run out, or of two that do not.
@@ -138,14 +62,20 @@ fn lengths(random: &mut Random) -> (usize, usize) {
     )
 }
 
+fn history(random: &mut Random, length: usize, caps: Caps, calls: Vec<Call>) -> History {
+    History {
+        ledger: random.bytes(length),
+        caps,
+        tampering: (0, Vec::new()),
+        calls,
+    }
+}
+
 /// A call with old bytes in the tape buffer.
 fn call(random: &mut Random, message: Vec<u8>) -> Call {
     let length = values::tape_length(random);
-    Call {
-        message,
-        values: None,
-        tape: random.bytes(length),
-    }
+    let tape = random.bytes(length);
+    Call { message, tape }
 }
 
 /// The message with its swap under another name.
@@ -156,7 +86,7 @@ fn renamed(message: &Message, utis: &[Vec<u8>], others: &[Vec<u8>]) -> Message {
 
 /// Two calls that are refused with the same number for different reasons.
 fn refused_pair(random: &mut Random) -> (Call, Call) {
-    let verdict = *random.pick(&[20, 4, 5, 6, 7, 8, 9, 10, 11, 19, 12, 13, 15]);
+    let verdict = *random.pick(&[4, 5, 6, 7, 8, 9, 10, 11, 19, 12, 13, 15]);
     (refused(random, verdict), refused(random, verdict))
 }
 
@@ -165,7 +95,6 @@ fn refused(random: &mut Random, verdict: u8) -> Call {
     let uti = values::uti(random);
     let full = sound::message(random, "NEWT", &uti);
     let short = sound::message(random, "TERM", &uti);
-    let valuation = sound::message(random, "VALU", &uti);
     let message = match verdict {
         5 => {
             let length = random.between(1, 60);
@@ -175,17 +104,13 @@ fn refused(random: &mut Random, verdict: u8) -> Call {
         6 => full.with(2, random.pick(&malformed::values(2))),
         7 => full.without(*random.pick(&[1, 4, 5, 6, 9, 12, 20, 25])),
         8 => {
-            let message = *random.pick(&[&full, &short, &valuation]);
-            let action = message.text(ACTION_TYPE);
-            let codes: Vec<u8> = codes_not_taken_by(&action).collect();
-            message.with(*random.pick(&codes), "value")
+            let codes: Vec<u8> = codes_of_full_messages().collect();
+            short.with(*random.pick(&codes), "value")
         }
         9 => {
-            let message = *random.pick(&[&full, &valuation]);
-            let action = message.text(ACTION_TYPE);
-            let codes = codes_taken_by(&action).filter(|&code| code != ACTION_TYPE);
-            let code = *random.pick(&codes.collect::<Vec<u8>>());
-            message.with(code, malformed::value(random, code))
+            let codes: Vec<u8> = codes_with_a_form().collect();
+            let code = *random.pick(&codes);
+            full.with(code, malformed::value(random, code))
         }
         10 => full.with(3, random.pick(&["ETRM", "CREV", "ABCD"])),
         11 => full.with(10, "N").without(11),
@@ -198,15 +123,12 @@ fn refused(random: &mut Random, verdict: u8) -> Call {
             .with(7, "2030-01-02")
             .with(8, "2030-01-01")
             .with(9, "2030-01-01"),
-        15 => random.pick(&[short, valuation]).clone(),
+        15 => short,
         _ => full,
     };
     let mut call = call(random, message.encode());
-    match verdict {
-        4 => call.tape.truncate(random.below(LINE_SIZE)),
-        // No ledger has rows for so short a table.
-        20 => call.values = Some(vec![HELD; random.below(values_size(1))]),
-        _ => {}
+    if verdict == 4 {
+        call.tape.truncate(random.below(LINE_SIZE));
     }
     call
 }
@@ -216,7 +138,6 @@ fn tapes_of_agreeing_histories_are_equal() {
     let mut random = Random::for_test(701);
     let mut compared = Compared::new();
     let (mut pairs, mut lines, mut different, mut silent) = (0, 0, 0, 0);
-    let mut valuations = 0;
     while compared.tally.submissions < submissions(24_000) {
         let (first, second) = pair_of_histories(&mut random);
         let first = run(&mut compared, &first);
@@ -229,23 +150,17 @@ fn tapes_of_agreeing_histories_are_equal() {
         lines += first.tape.len() / LINE_SIZE;
         let differ = |place: &usize| first.messages[*place] != second.messages[*place];
         different += (0..CALLS).filter(differ).count();
-        for (action, count) in [("MODI", &mut silent), ("VALU", &mut valuations)] {
-            let places = accepted_without_line(&first, action);
-            assert_eq!(places, accepted_without_line(&second, action));
-            *count += places.into_iter().filter(differ).count();
-        }
+        let places = modifications_without_line(&first);
+        assert_eq!(places, modifications_without_line(&second));
+        silent += places.into_iter().filter(differ).count();
     }
     println!(
-        "histories: {pairs} pairs, {lines} lines, {silent} modifications without one, {valuations} valuations, {}",
+        "histories: {pairs} pairs, {lines} lines, {silent} modifications without one, {}",
         compared.tally
     );
     assert!(lines > 5 * pairs && different > 20 * pairs);
     // There are some in most pairs, with other values on each side.
     assert!(silent > pairs / 2, "{silent} in {pairs} pairs");
-    assert!(valuations > pairs / 2, "{valuations} in {pairs} pairs");
-    let earlier = compared.tally.verdict(21);
-    assert!(earlier > pairs as u64 / 4, "{earlier} in {pairs} pairs");
-    assert!(compared.tally.verdict(20) > 0);
 }
 
 /// How many NEWT messages were accepted.
@@ -255,12 +170,12 @@ fn new_swaps(run: &Run) -> u32 {
     new.count() as u32
 }
 
-/// The places of the messages of an action that were accepted and wrote no line.
-fn accepted_without_line(run: &Run, action: &str) -> Vec<usize> {
+/// The places of the MODI messages that were accepted and wrote no line.
+fn modifications_without_line(run: &Run) -> Vec<usize> {
     let is_one = |&place: &usize| {
         run.verdicts[place] == 0
             && run.identifiers[place] == 0
-            && run.message(place).text(ACTION_TYPE) == action
+            && run.message(place).text(ACTION_TYPE) == "MODI"
     };
     (0..run.verdicts.len()).filter(is_one).collect()
 }
@@ -277,13 +192,10 @@ fn compare_histories(first: &History, second: &History) -> (Vec<Premise>, bool) 
 fn plain(messages: &[Message]) -> History {
     let call = |message: &Message| Call {
         message: message.encode(),
-        values: None,
         tape: vec![b'x'; LINE_SIZE],
     };
-    let ledger = vec![0; ledger_size(5)];
     History {
-        values: vec![0; values_size_beside(ledger.len())],
-        ledger,
+        ledger: vec![0; ledger_size(5)],
         caps: DAY_CAPS,
         tampering: (0, Vec::new()),
         calls: messages.iter().map(call).collect(),
@@ -470,58 +382,6 @@ fn changes_that_show_nothing_leave_equal_tapes() {
         let second = plain(&[swap(1), swap(2), message, correct(1)]);
         assert_eq!(compare_histories(&first, &second), (broken, false));
     }
-}
-
-/// A valuation leaves no trace, whatever it holds, whatever swap it is about and
-/// whether or not it is accepted.
-#[test]
-fn valuations_leave_equal_tapes() {
-    let valued = |n: u64| plain_valuation().with(1, swap(n).value(1));
-    let other = valued(1)
-        .with(5, "2024-04-02T00:00:00Z")
-        .with(30, "9")
-        .with(31, "JPY")
-        .with(32, "2024-04-01T16:00:01Z")
-        .with(33, "CCPV");
-    let history = |second: Message| {
-        let ended = short(1, "TERM", Some("ETRM"));
-        plain(&[swap(1), swap(2), valued(1), second, correct(1), ended])
-    };
-    let first = history(valued(1));
-    for (message, broken) in [
-        (other.clone(), vec![]),
-        (
-            other.with(4, "2024-03-02T00:00:00Z"),
-            vec![Premise::EventTime],
-        ),
-        (other.with(1, swap(2).value(1)), vec![Premise::Swap]),
-        (
-            other.with(32, "2024-04-01T15:59:59Z"),
-            vec![Premise::Verdict],
-        ),
-        (other.with(33, "MTM"), vec![Premise::Verdict]),
-        (
-            change(1),
-            vec![
-                Premise::Action,
-                Premise::Event,
-                Premise::EventTime,
-                Premise::Terms,
-            ],
-        ),
-    ] {
-        let second = history(message);
-        assert_eq!(compare_histories(&first, &second), (broken, false));
-    }
-    // Other tables, before the first call and between two.
-    let mut second = first.clone();
-    second.values.fill(HELD);
-    second.calls[4].values = Some(vec![b'z'; values_size(5)]);
-    assert_eq!(compare_histories(&first, &second), (vec![], false));
-    // A table of another length is refused, and a line is missing.
-    second.calls[4].values = Some(Vec::new());
-    second.calls[5].values = Some(vec![0; values_size(5)]);
-    breaks_only(Premise::Verdict, &first, &second);
 }
 
 #[test]

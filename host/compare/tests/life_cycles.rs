@@ -4,7 +4,7 @@
 use compare::compared::Compared;
 use compare::cycles::{next_message, Model};
 use compare::layout::{self, ledger_size, DAY_ROWS, IDENTIFIER_LIMIT, LARGEST_CAPACITY};
-use compare::layout::{LINE_SIZE, RECORD_SIZE, ROW_SIZE, SHORTEST_LEDGER};
+use compare::layout::{LINE_SIZE, ROW_SIZE, SHORTEST_LEDGER};
 use compare::lists::{statuses, ACTIONS, ACTION_TYPE, EVENT_TYPE};
 use compare::matrix;
 use compare::message::{described, Message};
@@ -49,14 +49,12 @@ impl Ledger {
     fn open(random: &mut Random, length: usize, swaps: usize) -> Ledger {
         let caps = values::caps(random);
         let before = random.bytes(length);
-        let values = values::table(random, layout::capacity(length));
         let mut compared = Compared::new();
         compared.set_ledger(&before);
-        compared.set_values(&values);
         assert_eq!(compared.open(&caps).verdict, 0);
         let ledger = Ledger {
             compared,
-            model: Model::opened_beside(length, caps, values),
+            model: Model::opened(length, caps),
             utis: values::utis(random, swaps),
             before,
         };
@@ -64,27 +62,23 @@ impl Ledger {
         ledger
     }
 
-    /// Submits one message, holds both to the model, asks two statuses and
-    /// valuations and the totals.
+    /// Submits one message, holds both to the model, asks two statuses and the
+    /// totals.
     fn step(&mut self, random: &mut Random, met: &mut Met) {
         let message = next_message(random, &self.model, &self.utis);
         let tape = tape_before(random);
         let status = self.model.status(message.value(1));
         self.compared.set_tape(&tape);
-        if random.once_in(40) {
-            self.refuse_other_length(random, &message);
-        }
         let answer = self.compared.submit(&message.encode());
         let due = self.model.submit(&message, tape.len());
         let text = described(&message.encode());
         assert_eq!(answer.verdict, due.verdict, "{text}");
         assert_eq!(answer.identifier, due.identifier, "{text}");
-        assert_eq!((answer.status, answer.element), (0, due.element), "{text}");
+        assert_eq!((answer.status, answer.element), (0, 0));
         match due.line {
             Some(line) => assert_eq!(self.compared.tape()[..LINE_SIZE], line),
             None => assert_eq!(self.compared.tape(), tape),
         }
-        assert!(self.compared.values() == self.model.values, "{text}");
         self.check_row(message.value(1));
         self.ask(message.value(1));
         let other = random.pick(&self.utis).clone();
@@ -95,20 +89,6 @@ impl Ledger {
             (0, self.model.header.totals)
         );
         met.note(&message, status, answer);
-    }
-
-    /// With a valuation table of another length the message gets 20.
-    fn refuse_other_length(&mut self, random: &mut Random, message: &Message) {
-        let right = self.model.values.len();
-        let wrong = *random.pick(&[
-            right - 1,
-            right + 1,
-            right - RECORD_SIZE,
-            right + RECORD_SIZE,
-        ]);
-        self.compared.set_values(&random.bytes(wrong));
-        assert_eq!(self.compared.submit(&message.encode()).verdict, 20);
-        self.compared.set_values(&self.model.values);
     }
 
     /// The swap's row and the header are as the model says.
@@ -128,11 +108,6 @@ impl Ledger {
         assert_eq!((answer.verdict, answer.element), (0, 0));
         assert_eq!(answer.status, self.model.status(uti));
         assert_eq!(answer.identifier, self.model.identifier(uti));
-        let valuation = self.compared.valuation(uti);
-        assert_eq!(
-            (valuation.verdict, valuation.record),
-            (0, self.model.valuation(uti))
-        );
     }
 
     /// Every byte of the ledger is as the model says, or as before opening.
@@ -186,8 +161,6 @@ impl Met {
             let (with, without) = (self.accepted(action, true), self.accepted(action, false));
             match action {
                 "PRTO" => assert!(with == 0 && without > 0),
-                // There are more of them than of terminations.
-                "VALU" => assert!(with == 0 && without > self.accepted("TERM", true)),
                 // One MODI in three repeats the stored terms.
                 "MODI" => assert!(with > without && without > with / 5),
                 _ => assert!(with > 0 && without == 0, "{action}"),
@@ -220,7 +193,7 @@ fn life_cycles_on_ledgers_of_several_sizes() {
     }
     println!("life cycles: {}", met.tally);
     met.check();
-    for verdict in [0, 4, 8, 10, 15, 16, 17, 20, 21] {
+    for verdict in [0, 4, 10, 15, 16, 17] {
         assert!(met.tally.verdict(verdict) > 0, "verdict {verdict}");
     }
 }
@@ -265,7 +238,7 @@ fn identifiers_run_out() {
     while ledger.model.header.next < IDENTIFIER_LIMIT {
         ledger.step(&mut random, &mut met);
     }
-    // Nothing but PRTO, VALU and MODI without a line is accepted then.
+    // Nothing but PRTO and MODI without a line is accepted then.
     let mut spent = Met::default();
     for _ in 0..1_300 {
         ledger.step(&mut random, &mut spent);
@@ -276,6 +249,6 @@ fn identifiers_run_out() {
     assert!(ledger.compared.tally.verdict(sdr::IDENTIFIERS_SPENT) > 0);
     let lines = met.accepted.iter().filter(|((_, line), _)| *line);
     assert_eq!(lines.map(|(_, count)| count).sum::<u64>(), 100);
-    let expected = ["MODI", "PRTO", "VALU"].map(|action| (action.to_string(), false));
+    let expected = [("MODI".to_string(), false), ("PRTO".to_string(), false)];
     assert!(spent.accepted.keys().eq(&expected), "{:?}", spent.accepted);
 }

@@ -2,7 +2,6 @@
 
 use compare::compared::Compared;
 use compare::faults::{self, Case};
-use compare::layout::RECORD_SIZE;
 use compare::layout::{ledger_size, Caps, DAY_CAPS, LINE_SIZE, SHORTEST_LEDGER, SMALLEST_CAP};
 use compare::lists::{ACTIONS, CLASSES};
 use compare::random::Random;
@@ -29,12 +28,10 @@ fn a_refusal_changes_nothing() {
             let (verdict, element) = case.break_rules(&mut random, &[fault]);
             let (ledger, tape) = (case.ledger(), case.tape());
             compared.set_ledger(&ledger);
-            compared.set_values(&case.values);
             compared.set_tape(&tape);
             let answer = compared.submit(&case.message());
             assert_eq!(answer, refused(verdict, element), "{action} {fault:?}");
             assert_eq!(compared.ledger(), ledger, "{action} {fault:?}");
-            assert_eq!(compared.values(), case.values, "{action} {fault:?}");
             assert_eq!(compared.tape(), tape, "{action} {fault:?}");
         }
     }
@@ -69,15 +66,8 @@ fn empty_buffers_are_refused() {
     assert_eq!(compared.submit(&message), refused(3, 0));
     assert_eq!(compared.status(&[]), refused(3, 0));
     assert_eq!(compared.totals().verdict, 3);
-    assert_eq!(compared.valuation(&[]).verdict, 3);
     compared.set_ledger(&vec![0; ledger_size(1)]);
-    compared.set_values(&[]);
     assert_eq!(compared.open(&CAPS), Answer::default());
-    assert_eq!(compared.submit(&[]), refused(20, 0));
-    assert_eq!(compared.submit(&message), refused(20, 0));
-    assert_eq!(compared.status(&[]), refused(9, 1));
-    assert_eq!(compared.valuation(&[]).verdict, 20);
-    compared.set_values(&[0; RECORD_SIZE]);
     assert_eq!(compared.submit(&[]), refused(4, 0));
     assert_eq!(compared.submit(&message), refused(4, 0));
     assert_eq!(compared.status(&[]), refused(9, 1));

@@ -4,12 +4,12 @@
 use compare::codes::{list_of, CURRENCIES, LOCATIONS};
 use compare::compared::Compared;
 use compare::layout::*;
-use compare::lists::{codes, ACTIONS, CLASSES, EVENTS, METHODS};
+use compare::lists::{codes, ACTIONS, CLASSES, EVENTS, LAST_CODE};
 use compare::lists::{PRICE_NOTATIONS, SPREAD_NOTATIONS};
 use compare::matrix::{is_pair, status_after};
 use compare::message::Message;
 use compare::order;
-use compare::sound::{plain_new, plain_package, plain_short, plain_spread, plain_valuation};
+use compare::sound::{plain_new, plain_package, plain_short, plain_spread};
 use compare::terms::is_true;
 use std::fs;
 use std::ops::Range;
@@ -40,15 +40,6 @@ fn number_before(opening: &str, words: &str) -> usize {
     let before = paragraph.split_once(words).expect("a number and words").0;
     let (_, digits) = before.rsplit_once(' ').expect("a number");
     number(digits) as usize
-}
-
-/// The words in back quotes of the paragraph with this opening.
-fn quoted(opening: &str) -> Vec<String> {
-    let lines = from(opening);
-    let paragraph = lines.split(|line| line.is_empty()).next();
-    let text = paragraph.expect("a paragraph").join(" ");
-    let parts = text.split('`').skip(1).step_by(2);
-    parts.map(str::to_string).collect()
 }
 
 /// The first table behind the line that opens with these words.
@@ -157,33 +148,11 @@ fn a_row() {
 }
 
 #[test]
-fn a_record() {
-    let record = [
-        HELD_IN_RECORD..HELD_IN_RECORD + 1,
-        AMOUNT_IN_RECORD,
-        CURRENCY_IN_RECORD,
-        TIME_IN_RECORD,
-        METHOD_IN_RECORD,
-        TAIL_IN_RECORD..TAIL_IN_RECORD + 1,
-    ];
-    assert_eq!(fields("**8.11**"), record);
-    assert_eq!(size("**8.11**"), RECORD_SIZE);
-    let times = number_before("**Verdict 20**", " times the capacity");
-    assert_eq!(times, RECORD_SIZE);
-}
-
-#[test]
-fn actions_and_methods() {
-    assert_eq!(quoted("**4.2**"), ACTIONS);
-    assert_eq!(quoted("**4.17**"), METHODS);
-}
-
-#[test]
 fn lengths() {
     assert_eq!(size("**2.6**"), LONGEST_MESSAGE);
     assert_eq!(size("**8.2**"), SHORTEST_LEDGER);
-    let known = number_before("**2.1**", ", the number of known codes");
-    assert_eq!(known, codes().count());
+    let codes = number_before("**2.1**", ", the number of known codes");
+    assert_eq!(codes, usize::from(LAST_CODE));
     assert_eq!(number_before("**11.1**", " rows"), DAY_ROWS);
 }
 
@@ -195,7 +164,6 @@ fn the_lists_of_codes() {
     assert_eq!(number_before(clause, " alphabetic codes"), CURRENCIES.len());
     assert_eq!(number_before(clause, " two-letter codes"), LOCATIONS.len());
     let rows = table("## 3 Elements");
-    assert_eq!(rows.len(), codes().count());
     for (row, code) in rows.iter().zip(codes()) {
         let due = match row[3].as_str() {
             "currency" => Some(CURRENCIES.as_slice()),
@@ -205,6 +173,7 @@ fn the_lists_of_codes() {
         assert_eq!(number(&row[0]), u64::from(code));
         assert_eq!(list_of(code), due, "{row:?}");
     }
+    assert_eq!(rows.len(), usize::from(LAST_CODE));
 }
 
 #[test]
@@ -218,7 +187,6 @@ fn the_order_of_rules() {
         &order::SUBMITTING,
         &order::ASKING,
         &order::TOTALS,
-        &order::VALUATION,
     ];
     assert_eq!(orders, operations);
 }
@@ -341,7 +309,7 @@ fn elements() -> Vec<(u8, String)> {
     let rows = table("## 3 Elements");
     let element = |row: &Vec<String>| (number(&row[0]) as u8, row[4].clone());
     let elements: Vec<(u8, String)> = rows.iter().map(element).collect();
-    assert!(elements.iter().map(|(code, _)| *code).eq(codes()));
+    assert!(elements.iter().map(|(code, _)| *code).eq(1..=LAST_CODE));
     elements
 }
 
@@ -359,7 +327,7 @@ fn missing(code: u8, needed: &str) -> Option<(u8, u8)> {
 /// holds; no condition does not.
 fn holds(message: &Message, needed: &str) -> bool {
     let Some(condition) = needed.strip_prefix("if ") else {
-        assert!(["all", "full", "by the matrix", "no", "valuation"].contains(&needed));
+        assert!(["all", "full", "by the matrix", "no"].contains(&needed));
         return false;
     };
     let condition = condition.replace(" and ", ", ");
@@ -406,7 +374,6 @@ fn full_messages() -> Vec<Message> {
 fn the_elements() {
     let elements = elements();
     let short = plain_short("TERM", Some("ETRM"));
-    let valuation = plain_valuation();
     let mut met = Vec::new();
     for (code, needed) in &elements {
         for message in full_messages() {
@@ -419,12 +386,6 @@ fn the_elements() {
         let brief = missing(*code, needed).filter(|_| needed != "full");
         let due = brief.unwrap_or((15, 0));
         assert_eq!(judged(&short.without(*code)), due, "{code}");
-        let due = match needed.as_str() {
-            "valuation" => (7, *code),
-            "all" => missing(*code, needed).expect("all messages need it"),
-            _ => (15, 0),
-        };
-        assert_eq!(judged(&valuation.without(*code)), due, "{code}");
     }
     let conditional = elements
         .iter()

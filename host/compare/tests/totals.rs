@@ -8,7 +8,7 @@ use compare::judge::{Judge, BOTH};
 use compare::layout::*;
 use compare::message::Message;
 use compare::random::Random;
-use compare::sound::{plain_new, plain_short, plain_valuation, swap, uti_of};
+use compare::sound::{plain_new, plain_short, swap, uti_of};
 use compare::terms::terms_of;
 use compare::{submissions, values};
 use sdr::{Answer, Totals, CLOSED, ERRORED, LIVE, PORTED, UNKNOWN};
@@ -41,10 +41,6 @@ fn eror(swap: &Message) -> Message {
 
 fn prto(swap: &Message) -> Message {
     short(swap, "PRTO", Some("PTNG"))
-}
-
-fn valu(swap: &Message) -> Message {
-    plain_valuation().with(1, swap.value(1))
 }
 
 /// The totals as they are answered with verdict 0.
@@ -110,7 +106,6 @@ fn the_life_of_two_swaps() {
         (first.clone(), 15, [1, 0, 0, 0]),
         (modi(&first).with(21, "EUR"), 0, [1, 0, 0, 0]),
         (modi(&first).with(21, "EUR"), 0, [1, 0, 0, 0]),
-        (valu(&first), 0, [1, 0, 0, 0]),
         (second.clone(), 0, [2, 0, 0, 0]),
         (swap(3), 17, [2, 0, 0, 0]),
         (term(&first), 0, [1, 1, 0, 0]),
@@ -145,7 +140,7 @@ fn the_life_of_two_swaps() {
 /// The status after an action; none where the status before does not admit it.
 fn after(action: &str, status: u8) -> Option<u8> {
     match (status, action) {
-        (LIVE, "MODI" | "CORR" | "VALU") => Some(LIVE),
+        (LIVE, "MODI" | "CORR") => Some(LIVE),
         (LIVE, "TERM") => Some(CLOSED),
         (LIVE | CLOSED, "EROR") => Some(ERRORED),
         (LIVE, "PRTO") => Some(PORTED),
@@ -156,7 +151,7 @@ fn after(action: &str, status: u8) -> Option<u8> {
 }
 
 /// One message of every action about a swap, and a MODI that shows nothing.
-fn every_action(swap: &Message) -> [Message; 9] {
+fn every_action(swap: &Message) -> [Message; 8] {
     [
         swap.clone(),
         modi(swap),
@@ -166,7 +161,6 @@ fn every_action(swap: &Message) -> [Message; 9] {
         eror(swap),
         revi(swap),
         prto(swap),
-        valu(swap),
     ]
 }
 
@@ -215,7 +209,7 @@ fn every_sequence_of_actions() {
     assert_eq!(totals(&mut compared), [3, 1, 3, 2]);
     let mut steps = 0;
     walk(&mut compared, LIVE, 3, &mut steps);
-    assert_eq!(steps, 9 + 81 + 729 + 6_561);
+    assert_eq!(steps, 8 + 64 + 512 + 4_096);
 }
 
 /// The sum is the number of NEWT messages accepted, whatever else comes.
@@ -477,7 +471,6 @@ fn totals_of_other_statuses_do_not_matter() {
         (LIVE, [3, 0, 0, 0], eror(&plain), [2, 0, 1, 0]),
         (LIVE, [1, 1, 1, 0], corr(&plain), [1, 1, 1, 0]),
         (LIVE, [2, 0, 1, 0], modi(&plain), [2, 0, 1, 0]),
-        (LIVE, [1, 0, 2, 0], valu(&plain), [1, 0, 2, 0]),
         (CLOSED, [0, 1, 2, 0], revi(&plain), [1, 0, 2, 0]),
         (CLOSED, [0, 3, 0, 0], eror(&plain), [0, 2, 1, 0]),
         (CLOSED, [2, 1, 0, 0], corr(&plain), [2, 1, 0, 0]),
@@ -546,13 +539,12 @@ fn check_shifted(random: &mut Random, compared: &mut Compared) {
     let old = model.status(uti);
     let is_wrong = old != UNKNOWN && stored[total_place(old)] == 0;
     compared.set_ledger(&ledger);
-    compared.set_values(&model.values);
     let asked = compared.status(uti);
     let due = if is_wrong { (14, 0) } else { (0, old) };
     assert_eq!((asked.verdict, asked.status), due, "{stored:?}");
     let verdict = model.submit(&message, LINE_SIZE).verdict;
     // Action and event are judged before the row.
-    let due = if is_wrong && ![8, 10].contains(&verdict) {
+    let due = if is_wrong && verdict != 10 {
         14
     } else {
         verdict
@@ -710,17 +702,16 @@ fn message_on_the_screen(n: usize) -> Message {
         return swap((WRITTEN + n / 2) as u64);
     }
     let place = n * 7_919 % WRITTEN;
-    every_action(&swap(place as u64))[1 + n / 2 % 8].clone()
+    every_action(&swap(place as u64))[1 + n / 2 % 7].clone()
 }
 
 /// Submits so many messages to a judge; the totals are always those that a scan
 /// counts. Answers the messages accepted.
 fn use_screen(judge: &dyn Judge, ledger: &mut [u8], messages: usize) -> usize {
     let (mut totals, mut accepted) = ([7; TOTALS], 0);
-    let mut values = vec![0; values_size(LARGEST_CAPACITY)];
     for n in 0..messages {
         let message = message_on_the_screen(n).encode();
-        let answer = judge.submit(ledger, &mut values, &mut [0; LINE_SIZE], &message);
+        let answer = judge.submit(ledger, &mut [0; LINE_SIZE], &message);
         assert!([0, 15, 17].contains(&answer.verdict), "{answer:?}");
         accepted += usize::from(answer.verdict == 0);
         if n % 20 < 2 || n + 1 == messages {

@@ -9,7 +9,7 @@ use compare::layout::{self, ledger_size, Caps, Header, DAY_CAPS, LINE_SIZE};
 use compare::layout::{NOTIONAL_IN_LINE, NOTIONAL_SIZE, PLUS_IN_LINE, PRICE_IN_LINE, PRICE_SIZE};
 use compare::lists::{ACTIONS, EVENTS};
 use compare::random::Random;
-use compare::sound::{plain_new, plain_package, plain_spread, plain_valuation};
+use compare::sound::{plain_new, plain_package, plain_spread};
 use compare::{matrix, order, terms};
 use sdr::Answer;
 use std::collections::BTreeSet;
@@ -151,7 +151,6 @@ fn pairs_of_the_matrix() {
         let (answer, _) = submit_case(&case);
         let due = match event {
             _ if line.is_yes() => (0, 0),
-            Some(_) if matrix::is_valuation(action) => (8, 3),
             Some(event) if !is_event(event) => (9, 3),
             _ => (10, 0),
         };
@@ -174,7 +173,6 @@ fn is_event(text: &str) -> bool {
 fn submit_case(case: &Case) -> (Answer, Compared) {
     let mut compared = Compared::new();
     compared.set_ledger(&case.ledger());
-    compared.set_values(&case.values);
     compared.set_tape(&case.tape());
     (compared.submit(&case.message()), compared)
 }
@@ -204,10 +202,10 @@ fn submit(ledger: &[u8], message: &[u8]) -> (u8, u8, Vec<u8>) {
 }
 
 /// The words for forms and the codes that have them.
-const FORMS: [(&str, &[u8]); 18] = [
+const FORMS: [(&str, &[u8]); 16] = [
     ("uti", &[1]),
     ("event", &[3]),
-    ("time", &[4, 5, 6, 32]),
+    ("time", &[4, 5, 6]),
     ("date", &[7, 8, 9]),
     ("cleared", &[10]),
     ("truth", &[11, 12, 13, 15]),
@@ -216,10 +214,8 @@ const FORMS: [(&str, &[u8]); 18] = [
     ("price", &[17, 26]),
     ("notation", &[18]),
     ("spread-notation", &[27]),
-    ("currency", &[19, 21, 28, 31]),
+    ("currency", &[19, 21, 28]),
     ("notional", &[20]),
-    ("signed-amount", &[30]),
-    ("method", &[33]),
     ("location", &[22]),
     ("lei", &[23, 24]),
     ("class", &[25]),
@@ -239,11 +235,9 @@ fn forms_inside_a_message() {
 /// A malformed value gets 9 with its code, a sound one no 9.
 fn try_value(code: u8, line: &Line) {
     let value = value(&line.rest);
-    // The swap is unknown, which only a valuation minds.
-    let (base, later) = match code {
-        30.. => (plain_valuation(), &[15][..]),
-        26.. => (plain_spread("1", "5"), order::from_to(10, 13)),
-        _ => (plain_package("1", "5"), order::from_to(10, 13)),
+    let base = match code {
+        26.. => plain_spread("1", "5"),
+        _ => plain_package("1", "5"),
     };
     let message = base.with(code, &value).encode();
     let (verdict, element, _) = submit(&opened(), &message);
@@ -251,8 +245,8 @@ fn try_value(code: u8, line: &Line) {
     if value.is_empty() {
         assert_eq!((verdict, element), (5, 0), "{text}");
     } else if line.is_yes() {
-        let passes = verdict == 0 && code < 30;
-        assert!(passes || later.contains(&verdict), "{text}");
+        let later = order::from_to(10, 13);
+        assert!(verdict == 0 || later.contains(&verdict), "{text}");
     } else {
         assert_eq!((verdict, element), (9, code), "{text}");
     }
@@ -267,9 +261,7 @@ fn actions_inside_a_message() {
         if value.is_empty() {
             assert_eq!((verdict, element), (5, 0));
         } else if line.is_yes() {
-            // A valuation misses its own elements first.
-            assert!([0, 7, 8, 10, 15].contains(&verdict), "{}", line.rest);
-            assert_eq!(verdict == 7, value == b"VALU", "{}", line.rest);
+            assert!([0, 8, 10, 15].contains(&verdict), "{}", line.rest);
         } else {
             assert_eq!((verdict, element), (6, 2), "{}", line.rest);
         }
@@ -305,5 +297,5 @@ fn status_steps() {
         let after = compared.status(case.message.value(1)).status;
         assert_eq!(u64::from(after), number(&line.answer), "{}", line.rest);
     }
-    assert_eq!(asked, ACTIONS.len() * 5);
+    assert_eq!(asked, 7 * 5);
 }

@@ -22,7 +22,10 @@ impl Answer {
                 names::VERDICTS.len() - 1
             ))
         } else if element != 0 && names::element(element).is_none() {
-            Err("the element is neither 0 nor a code of the specification".to_string())
+            Err(format!(
+                "the element is not one of 0 to {}",
+                names::ELEMENTS.len()
+            ))
         } else if identifier >= names::IDENTIFIER_LIMIT {
             Err("the identifier has more than 12 digits".to_string())
         } else {

@@ -2,7 +2,7 @@
 //! of include/sdr.h; a test compares them.
 
 /// The words for each verdict, from 0 on.
-pub const VERDICTS: [&str; 22] = [
+pub const VERDICTS: [&str; 20] = [
     "accepted",
     "ledger buffer too short",
     "cap out of bounds or not a rounded amount",
@@ -23,51 +23,42 @@ pub const VERDICTS: [&str; 22] = [
     "ledger full",
     "identifiers spent",
     "package with both price and spread",
-    "valuation table of another length",
-    "valuation earlier than the one held",
 ];
 
-/// Each element by its code.
-pub const ELEMENTS: [(u64, &str); 32] = [
-    (1, "UTI"),
-    (2, "action type"),
-    (3, "event type"),
-    (4, "event timestamp"),
-    (5, "reporting timestamp"),
-    (6, "execution timestamp"),
-    (7, "effective date"),
-    (8, "expiration date"),
-    (9, "final contractual settlement date"),
-    (10, "cleared"),
-    (11, "non-standardized term"),
-    (12, "block election"),
-    (13, "large notional election"),
-    (14, "allocation"),
-    (15, "package indicator"),
-    (16, "package identifier"),
-    (17, "package price"),
-    (18, "price notation"),
-    (19, "price currency"),
-    (20, "notional amount"),
-    (21, "notional currency"),
-    (22, "settlement location"),
-    (23, "counterparty 1"),
-    (24, "counterparty 2"),
-    (25, "asset class"),
-    (26, "package spread"),
-    (27, "spread notation"),
-    (28, "spread currency"),
-    (30, "valuation amount"),
-    (31, "valuation currency"),
-    (32, "valuation timestamp"),
-    (33, "valuation method"),
+/// The name of each element, from code 1 on.
+pub const ELEMENTS: [&str; 28] = [
+    "UTI",
+    "action type",
+    "event type",
+    "event timestamp",
+    "reporting timestamp",
+    "execution timestamp",
+    "effective date",
+    "expiration date",
+    "final contractual settlement date",
+    "cleared",
+    "non-standardized term",
+    "block election",
+    "large notional election",
+    "allocation",
+    "package indicator",
+    "package identifier",
+    "package price",
+    "price notation",
+    "price currency",
+    "notional amount",
+    "notional currency",
+    "settlement location",
+    "counterparty 1",
+    "counterparty 2",
+    "asset class",
+    "package spread",
+    "spread notation",
+    "spread currency",
 ];
-
-/// The last code of an element.
-pub const LAST_CODE: u64 = ELEMENTS[ELEMENTS.len() - 1].0;
 
 /// Each action and what it says of the swap.
-pub const ACTIONS: [(&str, &str); 8] = [
+pub const ACTIONS: [(&str, &str); 7] = [
     ("NEWT", "a new swap"),
     ("MODI", "a change of terms"),
     ("CORR", "a correction"),
@@ -75,7 +66,6 @@ pub const ACTIONS: [(&str, &str); 8] = [
     ("EROR", "entered in error"),
     ("REVI", "brought back"),
     ("PRTO", "moved to another repository"),
-    ("VALU", "its current value"),
 ];
 
 /// The codes of the elements that `explain` looks for.
@@ -101,11 +91,11 @@ pub fn verdict(number: u64) -> Option<&'static str> {
 
 /// The name of an element, if there is such an element.
 pub fn element(code: u64) -> Option<&'static str> {
-    let found = ELEMENTS.iter().find(|&&(known, _)| known == code);
-    found.map(|&(_, name)| name)
+    let place = usize::try_from(code).ok()?.checked_sub(1)?;
+    ELEMENTS.get(place).copied()
 }
 
-/// What an action says of the swap, if it is one of the eight.
+/// What an action says of the swap, if it is one of the seven.
 pub fn action(code: &[u8]) -> Option<&'static str> {
     let found = ACTIONS.iter().find(|(name, _)| name.as_bytes() == code);
     found.map(|&(_, meaning)| meaning)

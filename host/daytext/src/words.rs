@@ -43,7 +43,7 @@ fn swap_words(message: &[u8]) -> String {
 fn action_words(message: &[u8]) -> String {
     match find(message, names::ACTION_TYPE) {
         Found::Value(value) => {
-            let meaning = names::action(value).unwrap_or("none of the eight actions");
+            let meaning = names::action(value).unwrap_or("none of the seven actions");
             format!("action {} ({meaning})", shown(value))
         }
         Found::Absent => "no action".to_string(),

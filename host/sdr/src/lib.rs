@@ -1,10 +1,10 @@
 //! A safe wrapper around the C interface of the swap data validation core.
 //!
-//! The core has five operations: [`open`] a ledger over a lent buffer,
+//! The core has four operations: [`open`] a ledger over a lent buffer,
 //! [`submit`] one message, ask the [`status`] of one swap, ask for the
-//! [`totals`] of the statuses, ask for the [`valuation`] of one swap. All five
-//! work on byte slices that stay the caller's. Empty slices are allowed and get
-//! the verdict of a buffer that is too short.
+//! [`totals`] of the statuses. All four work on byte slices that stay the
+//! caller's. Empty slices are allowed and get the verdict of a buffer that is
+//! too short.
 //!
 //! Signing, transport, dissemination delay and clock are the host's.
 //!
@@ -12,9 +12,8 @@
 //! let mut ledger = vec![0; sdr::ledger_size(400)];
 //! assert_eq!(sdr::open(&mut ledger, &[250_000_000; 5]).verdict, sdr::ACCEPTED);
 //!
-//! let mut values = vec![0; sdr::values_size(400)];
 //! let mut tape = [0; sdr::LINE_SIZE];
-//! let answer = sdr::submit(&mut ledger, &mut values, &mut tape, &[0, 0]);
+//! let answer = sdr::submit(&mut ledger, &mut tape, &[0, 0]);
 //! assert_eq!((answer.verdict, answer.element), (sdr::ACTION_WRONG, 2));
 //! assert_eq!(sdr::totals(&ledger).of(sdr::LIVE), 0);
 //! ```
@@ -28,8 +27,6 @@ pub const ROW_SIZE: usize = 184;
 pub const SHORTEST_LEDGER: usize = HEADER_SIZE + ROW_SIZE;
 /// The most swaps that a ledger holds, however long it is.
 pub const LARGEST_CAPACITY: usize = 100_000;
-/// The valuation of one swap in the valuation table.
-pub const RECORD_SIZE: usize = 56;
 /// A line of the tape; the shortest tape buffer.
 pub const LINE_SIZE: usize = 170;
 /// The longest message.
@@ -49,13 +46,13 @@ pub const LEDGER_WRONG: u8 = 3;
 pub const TAPE_SHORT: u8 = 4;
 /// The message's layout is wrong.
 pub const LAYOUT_WRONG: u8 = 5;
-/// The action is missing or not one of the eight; the element is 2.
+/// The action is missing or not one of the seven; the element is 2.
 pub const ACTION_WRONG: u8 = 6;
-/// An element needed by all, by a full action or by VALU is missing; the
-/// element is the lowest such code.
+/// An element needed by all, or by a full action, is missing; the element is
+/// the lowest such code.
 pub const ELEMENT_MISSING: u8 = 7;
-/// There is an element that the action does not take; the element is the lowest
-/// such code.
+/// TERM, EROR or PRTO has an element above 5; the element is the lowest such
+/// code.
 pub const ELEMENT_NOT_TAKEN: u8 = 8;
 /// A value breaks its form; the element is the lowest such code.
 pub const FORM_BROKEN: u8 = 9;
@@ -82,11 +79,6 @@ pub const LEDGER_FULL: u8 = 17;
 pub const IDENTIFIERS_SPENT: u8 = 18;
 /// A package has both price and spread.
 pub const PRICE_AND_SPREAD: u8 = 19;
-/// The valuation table has another length than [`values_size`] of the ledger's
-/// capacity.
-pub const VALUES_WRONG: u8 = 20;
-/// VALU has an earlier valuation timestamp than the one that is held.
-pub const VALUATION_EARLIER: u8 = 21;
 
 /// The status of a swap that the ledger does not know.
 pub const UNKNOWN: u8 = 0;
@@ -104,12 +96,6 @@ pub const fn ledger_size(rows: usize) -> usize {
     HEADER_SIZE + ROW_SIZE * rows
 }
 
-/// The length of the valuation table beside a ledger with room for so many
-/// swaps.
-pub const fn values_size(rows: usize) -> usize {
-    RECORD_SIZE * rows
-}
-
 /// What an operation answers.
 #[derive(Clone, Copy, Debug, PartialEq, Eq, Default)]
 pub struct Answer {
@@ -117,12 +103,10 @@ pub struct Answer {
     pub verdict: u8,
     /// The element at fault, 0 where the verdict names none.
     pub element: u8,
-    /// The swap's status, or 1 where a valuation is asked for and held; 0 for
-    /// opening, submitting and beside a refusal.
+    /// The swap's status; 0 for opening, submitting and beside a refusal.
     pub status: u8,
     /// Submitting: the identifier that the line took, 0 where no line is
     /// written. Status: the swap's last identifier, 0 where it is unknown.
-    /// Valuation: 0.
     pub identifier: u64,
 }
 
@@ -160,19 +144,6 @@ impl Totals {
     }
 }
 
-/// What the valuation question answers.
-#[derive(Clone, Copy, Debug, PartialEq, Eq, Default)]
-pub struct Valuation {
-    /// [`ACCEPTED`], [`LEDGER_WRONG`], [`VALUES_WRONG`], [`FORM_BROKEN`] or
-    /// [`ROW_WRONG`].
-    pub verdict: u8,
-    /// 1, the UTI's, beside [`FORM_BROKEN`]; else 0.
-    pub element: u8,
-    /// The swap's record as it is stored; none where no valuation is held,
-    /// where the swap is unknown and beside a refusal.
-    pub record: Option<[u8; RECORD_SIZE]>,
-}
-
 extern "C" {
     fn sdr_open(
         ledger: *mut u8,
@@ -186,8 +157,6 @@ extern "C" {
     fn sdr_submit(
         ledger: *mut u8,
         ledger_len: usize,
-        values: *mut u8,
-        values_len: usize,
         tape: *mut u8,
         tape_len: usize,
         message: *const u8,
@@ -195,15 +164,6 @@ extern "C" {
     ) -> u64;
     fn sdr_status(ledger: *const u8, ledger_len: usize, uti: *const u8, uti_len: usize) -> u64;
     fn sdr_totals(ledger: *const u8, ledger_len: usize, totals: *mut u32) -> u32;
-    fn sdr_valuation(
-        ledger: *const u8,
-        ledger_len: usize,
-        values: *const u8,
-        values_len: usize,
-        uti: *const u8,
-        uti_len: usize,
-        record: *mut u8,
-    ) -> u64;
 }
 
 /// Opens a ledger over the buffer, with the caps in the order CR, IR, FX, EQ,
@@ -220,20 +180,16 @@ pub fn open(ledger: &mut [u8], caps: &[u64; 5]) -> Answer {
 
 /// Submits one message. Where it is accepted the row is written and, where a
 /// line is due, the line into the first [`LINE_SIZE`] bytes of the tape buffer.
-/// The answer's identifier is 0 where none was due: for PRTO, for VALU, and for
-/// a MODI that shows nothing new, which changes no buffer. VALU writes the
-/// swap's record in the valuation table and nothing else, NEWT fills the record
-/// of its row with zeros. A refusal changes no buffer.
-pub fn submit(ledger: &mut [u8], values: &mut [u8], tape: &mut [u8], message: &[u8]) -> Answer {
-    // SAFETY: pointers and lengths are those of four slices that cannot
-    // overlap, since three are borrowed mutably; the core writes only to those
-    // three and keeps no pointer.
+/// The answer's identifier is 0 where none was due: for PRTO, and for a MODI
+/// that shows nothing new, which changes neither buffer. Nor does a refusal.
+pub fn submit(ledger: &mut [u8], tape: &mut [u8], message: &[u8]) -> Answer {
+    // SAFETY: pointers and lengths are those of three slices that cannot
+    // overlap, since two are borrowed mutably; the core writes only to those
+    // two and keeps no pointer.
     let number = unsafe {
         sdr_submit(
             ledger.as_mut_ptr(),
             ledger.len(),
-            values.as_mut_ptr(),
-            values.len(),
             tape.as_mut_ptr(),
             tape.len(),
             message.as_ptr(),
@@ -268,43 +224,6 @@ pub fn totals_into(ledger: &[u8], totals: &mut [u32; 4]) -> Answer {
     // and is borrowed mutably until the call returns. The core keeps no pointer.
     let number = unsafe { sdr_totals(ledger.as_ptr(), ledger.len(), totals.as_mut_ptr()) };
     Answer::unpack(u64::from(number))
-}
-
-/// Asks for the valuation that is held of the swap with this UTI, live or not.
-pub fn valuation(ledger: &[u8], values: &[u8], uti: &[u8]) -> Valuation {
-    let mut record = [0; RECORD_SIZE];
-    let answer = valuation_into(ledger, values, uti, &mut record);
-    Valuation {
-        verdict: answer.verdict,
-        element: answer.element,
-        record: (answer.status == 1).then_some(record),
-    }
-}
-
-/// Asks the same and writes the record into an array of the caller's, all of
-/// it: zeros where no valuation is held and beside a refusal. The answer's
-/// status is 1 where one is held.
-pub fn valuation_into(
-    ledger: &[u8],
-    values: &[u8],
-    uti: &[u8],
-    record: &mut [u8; RECORD_SIZE],
-) -> Answer {
-    // SAFETY: pointers and lengths are those of three slices, which the core
-    // only reads; the array, which it writes, has the bytes that it asks for
-    // and is borrowed mutably until the call returns. The core keeps no pointer.
-    let number = unsafe {
-        sdr_valuation(
-            ledger.as_ptr(),
-            ledger.len(),
-            values.as_ptr(),
-            values.len(),
-            uti.as_ptr(),
-            uti.len(),
-            record.as_mut_ptr(),
-        )
-    };
-    Answer::unpack(number)
 }
 
 #[cfg(test)]

@@ -4,10 +4,9 @@ use std::collections::BTreeMap;
 use std::path::Path;
 
 /// The names and numbers that the wrapper and include/sdr.h have in common.
-const SHARED: [(&str, usize); 33] = [
+const SHARED: [(&str, usize); 30] = [
     ("HEADER_SIZE", sdr::HEADER_SIZE),
     ("ROW_SIZE", sdr::ROW_SIZE),
-    ("RECORD_SIZE", sdr::RECORD_SIZE),
     ("LARGEST_CAPACITY", sdr::LARGEST_CAPACITY),
     ("LINE_SIZE", sdr::LINE_SIZE),
     ("LONGEST_MESSAGE", sdr::LONGEST_MESSAGE),
@@ -31,8 +30,6 @@ const SHARED: [(&str, usize); 33] = [
     ("LEDGER_FULL", sdr::LEDGER_FULL as usize),
     ("IDENTIFIERS_SPENT", sdr::IDENTIFIERS_SPENT as usize),
     ("PRICE_AND_SPREAD", sdr::PRICE_AND_SPREAD as usize),
-    ("VALUES_WRONG", sdr::VALUES_WRONG as usize),
-    ("VALUATION_EARLIER", sdr::VALUATION_EARLIER as usize),
     ("UNKNOWN", sdr::UNKNOWN as usize),
     ("LIVE", sdr::LIVE as usize),
     ("CLOSED", sdr::CLOSED as usize),

@@ -1,4 +1,4 @@
--- `dayrun::main` runs on the buffers of a new day. Assumes nothing.
+-- `dayrun::main` runs on the ledger and the tape buffer of a new day. Assumes nothing.
 use mathlib.Core.Path.{ap}
 use Rattle.submission.specs.Lent.{lent_of}
 use borrow.Author.Rules.{rules}
@@ -6,14 +6,13 @@ use Rattle.dayrun.proofs.main.Statement.{statement}
 use Rattle.dayrun.proofs.main.Tie as tie
 
 run-requires : tie.Need-run-requires
-run-requires c κs = (ap (λ l. lent_of l _ _) c.before.before.before.before.before.new-ledger.ensures.0, search rules)
+run-requires c κs = (ap (λ l. lent_of l _) c.before.before.before.before.new-ledger.ensures.0, search rules)
 
 pub main_spec : {M : Type 1} → statement M
 main_spec =
     tie.close
     (tie.spec
     (λ c κs. search rules)
-    (λ c. search rules)
     (λ c. search rules)
     (λ c. search rules)
     (λ c. search rules)

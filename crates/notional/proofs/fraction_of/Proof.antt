@@ -8,17 +8,17 @@ use native.Mathlib.Omega.{arith}
 use borrow.Author.Rules.{rules}
 use lib.ListN.{length, get_or, take, replicate, length-append}
 use Rattle.octets.specs.Bytes.{Bytes}
-use Rattle.numbers.specs.Numbers.{amount_decimals}
+use Rattle.numbers.specs.Numbers.{notionalDecimals}
 use Rattle.notional.specs.Amount.{unit, digit, spelled, fraction}
 use Rattle.notional.proofs.AmountLaws.{spelled_more, digits_fit, digit_padded}
 use Rattle.notional.proofs.fraction_of.Statement.{statement}
 use Rattle.notional.proofs.fraction_of.Tie as tie
 
 abbrev invariant-loop : tie.invariant-loop
-invariant-loop v d n₀ k₀ n k = (k ≤ amount_decimals) × (n < 10 ^ k) × (n ≡ spelled 0 (take k (d ++ replicate amount_decimals (code "0"))))
+invariant-loop v d n₀ k₀ n k = (k ≤ notionalDecimals) × (n < 10 ^ k) × (n ≡ spelled 0 (take k (d ++ replicate notionalDecimals (code "0"))))
 
 abbrev decreases-loop : tie.decreases-loop
-decreases-loop v d n₀ k₀ n k = amount_decimals - k
+decreases-loop v d n₀ k₀ n k = notionalDecimals - k
 
 loop-holds : tie.Need-loop-init invariant-loop decreases-loop
 unfolding spelled
@@ -28,7 +28,7 @@ loop-holds c = search rules
 room : (c : tie.In-loop invariant-loop decreases-loop) → c.before.loop.n < unit
 room c =
     let l = c.before.loop in
-    let top : 10 ^ l.k ≤ 10 ^ amount_decimals = pow-le-pow_right (omega arith) l.invariant.0 in
+    let top : 10 ^ l.k ≤ 10 ^ notionalDecimals = pow-le-pow_right (omega arith) l.invariant.0 in
     omega arith
 
 mul-n : tie.Need-overflow-mul-n invariant-loop decreases-loop
@@ -41,9 +41,9 @@ loop-again : tie.Need-loop-preserved invariant-loop decreases-loop
 loop-again c =
     let d = c.before.before.before.before.decimals-of.result.now in
     let l = c.before.before.before.loop in
-    let zeros = replicate amount_decimals (code "0") in
+    let zeros = replicate notionalDecimals (code "0") in
     let h : l.k < length (d ++ zeros) = rw length-append (omega arith) in
-    let e : c.digit-of.result ≡ digit (get_or (d ++ zeros) l.k 0) = c.digit-of.ensures.0 ∙ ap digit c.before.byte_at.ensures ∙ sym (digit_padded d amount_decimals l.k) in (
+    let e : c.digit-of.result ≡ digit (get_or (d ++ zeros) l.k 0) = c.digit-of.ensures.0 ∙ ap digit c.before.byte_at.ensures ∙ sym (digit_padded d notionalDecimals l.k) in (
       omega arith,
       digits_fit l.k l.n _ l.invariant.1 c.digit-of.ensures.1,
       omega (arith, spelled_more (d ++ zeros) l.k h),
@@ -53,8 +53,8 @@ returns : tie.Need-returns invariant-loop decreases-loop
 unfolding fraction
 returns c =
     let l = c.before.loop in
-    let e : l.k ≡ amount_decimals = omega arith in (
-      rw e at l.invariant.2 ∙ ap (λ (s : Bytes). spelled 0 (take amount_decimals (s ++ replicate amount_decimals (code "0")))) c.before.before.decimals-of.ensures,
+    let e : l.k ≡ notionalDecimals = omega arith in (
+      rw e at l.invariant.2 ∙ ap (λ (s : Bytes). spelled 0 (take notionalDecimals (s ++ replicate notionalDecimals (code "0")))) c.before.before.decimals-of.ensures,
       rw e at l.invariant.1,
     )
 

@@ -1,10 +1,8 @@
 //! Messages and ledgers for the tests.
 #![allow(dead_code)]
 
-use checker::sizes::{
-    self, header, line, row, COUNT, ENTRY, LARGEST_CAPACITY, RECORD_SIZE, TOTALS, U32, U64,
-};
-use checker::{open, submit, valuation, Answer};
+use checker::sizes::{self, header, line, row, COUNT, ENTRY, TOTALS, U32, U64};
+use checker::{open, submit, Answer};
 use std::collections::BTreeMap;
 use std::ops::Range;
 
@@ -12,7 +10,6 @@ pub const UTI: &str = "5493001KJTIIGC8Y1R12SWAP0001";
 pub const LEI_1: &str = "5493001KJTIIGC8Y1R12";
 pub const LEI_2: &str = "529900T8BM49AURSDO55";
 pub const EXECUTED: &str = "2024-02-29T10:15:30Z";
-pub const VALUED: &str = "2019-05-02T23:59:59Z";
 /// All caps at 250,000,000.
 pub const CAPS: [u64; 5] = [250_000_000; 5];
 
@@ -131,26 +128,15 @@ pub fn prto() -> Elements {
     short("PRTO", Some("PTNG"))
 }
 
-/// A valuation of example 15 of the CFTC's Appendix F.
-pub fn valu() -> Elements {
-    let mut m = short("VALU", None);
-    set(&mut m, 30, "11000");
-    set(&mut m, 31, "USD");
-    set(&mut m, 32, VALUED);
-    set(&mut m, 33, "MTMA");
-    m
-}
-
 /// The notional and the plus sign in a line.
 pub const AMOUNT: Range<usize> = line::NOTIONAL..line::NOTIONAL_CURRENCY;
 /// Bytes of the tape buffer behind the line.
 pub const SPARE: usize = 4;
 
-/// A ledger of some rows, its valuation table and a tape buffer.
+/// A ledger of some rows and a tape buffer.
 #[derive(Clone, PartialEq, Eq, Debug)]
 pub struct Book {
     pub ledger: Vec<u8>,
-    pub valuations: Vec<u8>,
     pub tape: Vec<u8>,
 }
 
@@ -162,10 +148,8 @@ impl Book {
     pub fn with_caps(rows: usize, caps: &[u64; 5]) -> Book {
         let mut ledger = vec![0xEE; sizes::ledger_size(rows)];
         assert_eq!(open(&mut ledger, caps), 0);
-        let capacity = rows.min(LARGEST_CAPACITY);
         Book {
             ledger,
-            valuations: vec![0xCC; RECORD_SIZE * capacity],
             tape: vec![0xDD; line::SIZE + SPARE],
         }
     }
@@ -177,12 +161,7 @@ impl Book {
 
     pub fn submit_bytes(&mut self, message: &[u8]) -> Answer {
         let before = self.clone();
-        let Book {
-            ledger,
-            valuations,
-            tape,
-        } = self;
-        let answer = submit(ledger, valuations, tape, message);
+        let answer = submit(&mut self.ledger, &mut self.tape, message);
         assert_eq!(answer.status, 0);
         if answer.verdict != 0 {
             assert_eq!(answer.identifier, 0);
@@ -214,15 +193,6 @@ impl Book {
 
     pub fn row_mut(&mut self, place: usize) -> &mut [u8] {
         &mut self.ledger[sizes::ledger_size(place)..][..row::SIZE]
-    }
-
-    /// The record at the place of a row.
-    pub fn record(&self, place: usize) -> &[u8] {
-        &self.valuations[RECORD_SIZE * place..][..RECORD_SIZE]
-    }
-
-    pub fn record_mut(&mut self, place: usize) -> &mut [u8] {
-        &mut self.valuations[RECORD_SIZE * place..][..RECORD_SIZE]
     }
 
     /// The totals in the header, from live to ported.
@@ -258,13 +228,6 @@ impl Book {
     pub fn set_u64(&mut self, at: usize, n: u64) {
         self.ledger[at..at + U64].copy_from_slice(&n.to_le_bytes());
     }
-}
-
-/// What the valuation question answers, and the array that it leaves.
-pub fn asked(ledger: &[u8], valuations: &[u8], uti: &[u8]) -> (Answer, [u8; RECORD_SIZE]) {
-    let mut record = [0xAB; RECORD_SIZE];
-    let answer = valuation(ledger, valuations, uti, &mut record);
-    (answer, record)
 }
 
 pub fn refused(verdict: u8, element: u8) -> Answer {

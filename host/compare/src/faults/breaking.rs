@@ -1,9 +1,8 @@
 //! How each rule is broken.
 
-use super::{Case, Damage, Fault, Layout, Length, Order, TooLong, WrongRow};
+use super::{Case, Damage, Fault, Layout, Order, TooLong, WrongRow};
 use crate::layout::{self, Header, COUNT_SIZE, ENTRY_SIZE, EXECUTION_IN_TERMS, HEADER_SIZE};
-use crate::layout::{total_place, SHORTEST_LEDGER, TIME_IN_RECORD, TOTALS, U16_SIZE};
-use crate::layout::{HELD, HELD_IN_RECORD, RECORD_SIZE};
+use crate::layout::{total_place, SHORTEST_LEDGER, TOTALS, U16_SIZE};
 use crate::layout::{IDENTIFIER_LIMIT, LINE_SIZE, LONGEST_MESSAGE, OFFSET_IN_ENTRY, ROW_SIZE};
 use crate::lists::*;
 use crate::malformed;
@@ -18,7 +17,6 @@ impl Case {
     pub(super) fn break_rule(&mut self, random: &mut Random, fault: Fault) {
         match fault {
             Fault::LedgerWrong(damage) => self.damage(random, damage),
-            Fault::ValuesWrong(length) => self.resize_values(random, length),
             Fault::TapeShort => self.tape_length = random.below(LINE_SIZE),
             Fault::LayoutWrong(layout) => self.layout = Some(layout),
             Fault::ActionWrong => self.spoil_action(random),
@@ -32,7 +30,6 @@ impl Case {
             Fault::DatesDisordered(order) => self.disorder(order),
             Fault::RowWrong(wrong) => self.spoil_row(random, wrong),
             Fault::NotAdmitted(status) => self.set_status(random, status),
-            Fault::ValuationEarlier => self.hold_later(random),
             Fault::OtherTime => self.other_time(random),
             Fault::LedgerFull => self.fill_up(),
             Fault::IdentifiersSpent => self.spend(random),
@@ -65,21 +62,6 @@ impl Case {
             Damage::Total(place) => header.totals[place] = wrong_total(random, header, place),
             Damage::TotalsWrap => header.totals = wrapping_totals(random, header.rows),
         }
-    }
-
-    fn resize_values(&mut self, random: &mut Random, length: Length) {
-        let right = layout::values_size_beside(self.ledger_length);
-        let wrong = match length {
-            Length::Empty => 0,
-            Length::ByteLess => right - 1,
-            Length::ByteMore => right + 1,
-            Length::RecordLess => right - RECORD_SIZE,
-            Length::RecordMore => right + RECORD_SIZE,
-            Length::Ledger => self.ledger_length,
-        };
-        let more = random.bytes(wrong.saturating_sub(self.values.len()));
-        self.values.extend(more);
-        self.values.truncate(wrong);
     }
 
     fn spoil_action(&mut self, random: &mut Random) {
@@ -220,14 +202,6 @@ impl Case {
         }
     }
 
-    /// The record of the row holds what comes after the message's valuation time.
-    fn hold_later(&mut self, random: &mut Random) {
-        let later = values::bytes_after(random, self.message.value(VALUATION_TIMESTAMP));
-        let record = &mut self.values[layout::record_range(self.row)];
-        record[HELD_IN_RECORD] = HELD;
-        record[TIME_IN_RECORD].copy_from_slice(&later);
-    }
-
     /// Another execution time than the row's, often in one character only.
     fn other_time(&mut self, random: &mut Random) {
         let stored = self.rows[self.row].terms[EXECUTION_IN_TERMS].to_vec();
@@ -246,7 +220,6 @@ impl Case {
         let rows = self.rows.len();
         self.ledger_length = layout::ledger_size(rows) + self.ledger_length % ROW_SIZE;
         self.header.capacity = rows as u32;
-        self.values.truncate(layout::values_size(rows));
     }
 
     /// No identifier is left, and a line is due.
@@ -294,11 +267,8 @@ fn wrapping_totals(random: &mut Random, rows: u32) -> [u32; TOTALS] {
     totals
 }
 
-/// A value that keeps the form of a code.
+/// A value that keeps the form of a code that only full messages take.
 fn sound_value(random: &mut Random, code: u8) -> Vec<u8> {
-    if takes("VALU", code) {
-        return sound::message(random, "VALU", b"").value(code).to_vec();
-    }
     loop {
         let mut full = sound::message(random, "NEWT", b"");
         sound::make_package(random, &mut full);
@@ -326,11 +296,6 @@ pub(super) fn spoiled(message: &Message, fault: Layout) -> Vec<u8> {
         Layout::CountTooHigh => bytes[1] = 1,
         Layout::CodeZero => bytes[entry(0)] = 0,
         Layout::CodeTooHigh => bytes[last] = LAST_CODE + 1,
-        Layout::CodeOfNone => {
-            let above = |n: &usize| bytes[entry(*n)] > NO_CODE;
-            let at = (0..count).find(above).unwrap_or(count - 1);
-            bytes[entry(at)] = NO_CODE
-        }
         Layout::CodesEqual => bytes[last] = bytes[last - ENTRY_SIZE],
         Layout::FirstOffset => bytes[entry(0) + OFFSET_IN_ENTRY] += 1,
         Layout::OffsetsEqual => {

@@ -3,15 +3,14 @@
 use super::breaking::spoiled;
 use super::{Fault, Layout};
 use crate::layout::{self, Header, Row, EXECUTION_IN_TERMS, IDENTIFIER_LIMIT, ROW_SIZE};
-use crate::layout::{total_place, TAIL_SIZE, TIME_IN_RECORD};
-use crate::lists::{ROW_STATUSES, UTI, VALUATION_TIMESTAMP};
+use crate::layout::{total_place, TAIL_SIZE};
+use crate::lists::{ROW_STATUSES, UTI};
 use crate::matrix;
 use crate::message::Message;
 use crate::random::Random;
 use crate::showing::showing;
 use crate::sound;
 use crate::terms::{line_is_due, terms_of};
-use crate::valuations::{self, is_earlier};
 use crate::values;
 use sdr::ACCEPTED;
 
@@ -21,8 +20,6 @@ pub struct Case {
     pub header: Header,
     pub rows: Vec<Row>,
     pub ledger_length: usize,
-    /// The valuation table.
-    pub values: Vec<u8>,
     pub tape_length: usize,
     pub message: Message,
     /// The row that is the swap's or can be made so.
@@ -49,7 +46,6 @@ impl Case {
             header,
             rows,
             ledger_length,
-            values: values::table(random, count + spare),
             tape_length: values::tape_length(random),
             message: Message::default(),
             row,
@@ -62,8 +58,7 @@ impl Case {
     }
 
     /// A sound message about the case's swap; NEWT is about an unknown one.
-    /// One full message in three shows the stored terms. A valuation is not
-    /// earlier than the one that is held.
+    /// One full message in three shows the stored terms.
     fn set_message(&mut self, random: &mut Random, action: &str, unknown: &[u8]) {
         if action == "NEWT" {
             self.message = sound::message(random, action, unknown);
@@ -81,32 +76,6 @@ impl Case {
             let mended = values::time(random);
             sound::set_execution(random, &mut self.message, &mended);
         }
-        if matrix::is_valuation(action) {
-            self.follow_held(random);
-        }
-    }
-
-    /// Where the valuation is earlier than the one that is held, the record gets
-    /// a time that is not after it: this one now and then.
-    fn follow_held(&mut self, random: &mut Random) {
-        let time = self.message.value(VALUATION_TIMESTAMP);
-        if is_earlier(&self.values, self.row, time) {
-            let held = if random.once_in(3) {
-                time.to_vec()
-            } else {
-                values::time_before(random, time)
-            };
-            self.values[layout::record_range(self.row)][TIME_IN_RECORD].copy_from_slice(&held);
-        }
-    }
-
-    /// The valuation table after the message, which is accepted.
-    pub fn values_after(&self) -> Vec<u8> {
-        let mut after = self.values.clone();
-        let of_message = |row: &Row| row.uti() == self.message.value(UTI);
-        let row = self.rows.iter().position(of_message);
-        valuations::write(&mut after, row.unwrap_or(self.rows.len()), &self.message);
-        after
     }
 
     /// Takes the rows into use. The totals are a count of them or, now and then,

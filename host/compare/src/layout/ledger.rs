@@ -127,22 +127,6 @@ pub fn total_place(status: u8) -> usize {
     place.expect("a status of a row")
 }
 
-/// The swap's row by the bytes of a ledger whose header is right: the first of
-/// those in use whose length byte and first bytes are the UTI's.
-pub fn row_of(ledger: &[u8], uti: &[u8]) -> Option<usize> {
-    let is_of = |row: &[u8]| {
-        usize::from(row[LENGTH_IN_ROW]) == uti.len() && row[UTI_IN_ROW].starts_with(uti)
-    };
-    let rows = ledger[HEADER_SIZE..].chunks_exact(ROW_SIZE);
-    let mut in_use = rows.take(u32_at(ledger, ROWS_IN_HEADER) as usize);
-    in_use.position(is_of)
-}
-
-/// Says in words where a byte of the valuation table lies.
-pub fn place_in_values(at: usize) -> String {
-    format!("record {} byte {}", at / RECORD_SIZE, at % RECORD_SIZE)
-}
-
 /// Says in words where a byte of the ledger lies.
 pub fn place(at: usize) -> String {
     if at < HEADER_SIZE {

@@ -1,6 +1,6 @@
 //! Short calls, messages laid out by hand, and random numbers.
 
-use daytext::names::VERDICTS;
+use daytext::names::{ELEMENTS, VERDICTS};
 use daytext::{Fault, Stop};
 
 /// The bytes of a text that must be right.
@@ -95,6 +95,6 @@ pub fn no_verdict() -> (usize, String) {
 
 /// The first number that is no element, and what is said of it.
 pub fn no_element() -> (usize, String) {
-    let sentence = "the element is neither 0 nor a code of the specification";
-    (29, sentence.to_string())
+    let last = ELEMENTS.len();
+    (last + 1, format!("the element is not one of 0 to {last}"))
 }

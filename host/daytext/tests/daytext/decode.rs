@@ -86,11 +86,11 @@ fn what_is_not_elements_is_bytes() {
 
 #[test]
 fn many_elements_with_wrong_offsets_are_bytes() {
-    // 33 entries that all point at 0: no line would be plain.
-    let mut day = vec![134, 0, 33, 0];
-    day.extend([0; 132]);
+    // 29 entries that all point at 0: no line would be plain.
+    let mut day = vec![118, 0, 29, 0];
+    day.extend([0; 116]);
     let text = decoded(&day);
-    assert!(text.starts_with("# message 1\nbytes 21 00 00 "), "{text}");
+    assert!(text.starts_with("# message 1\nbytes 1d 00 00 "), "{text}");
     assert_eq!(encoded(text), day);
 }
 

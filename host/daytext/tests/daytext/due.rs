@@ -1,6 +1,6 @@
 //! The report that the `due` lines give.
 
-use crate::common::{fault, no_element};
+use crate::common::fault;
 use daytext::Fault;
 
 #[track_caller]
@@ -81,20 +81,6 @@ fn counters() {
     );
 }
 
-/// Elements go from 28 to 30.
-#[test]
-fn counters_beside_the_gap() {
-    let text = |times, element| format!("repeat {times}\n\n1 A\ndue 8 {element} 0\n\nagain\n");
-    gives(
-        &text(3, "{n+29}"),
-        "message verdict element record\n1 8 30 0\n2 8 31 0\n3 8 32 0\nend 3 0\n",
-    );
-    let (_, sentence) = no_element();
-    for (times, element) in [(2, "{n+27}"), (3, "{n+27}"), (33, "{n}"), (34, "{n-1}")] {
-        is_refused(&text(times, element), 4, &sentence);
-    }
-}
-
 #[test]
 fn a_message_without_due() {
     let sentence = "this message has no `due`";
@@ -105,6 +91,6 @@ fn a_message_without_due() {
 
 #[test]
 fn a_text_that_breaks_the_form() {
-    is_refused("1 A\ndue 22 0 0\n", 2, "the verdict is not one of 0 to 21");
+    is_refused("1 A\ndue 20 0 0\n", 2, "the verdict is not one of 0 to 19");
     is_refused("1 A\nfoo\n", 2, "`foo` is not a word of the form");
 }

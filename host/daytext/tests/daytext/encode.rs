@@ -108,7 +108,7 @@ fn raw_has_no_length() {
 fn due_is_not_part_of_the_bytes() {
     gives("count 0\ndue 6 2 0\n", b"\x02\0\0\0");
     gives("length 5\nbytes 41\ndue cut\n", b"\x05\0A");
-    gives("due 21 33 999999999999\ncount 0\n", b"\x02\0\0\0");
+    gives("due 19 28 999999999999\ncount 0\n", b"\x02\0\0\0");
 }
 
 #[test]

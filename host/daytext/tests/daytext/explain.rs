@@ -35,7 +35,7 @@ message 2: swap LEDGERTESTSWAP0000001, action TERM (terminated)
   refused (verdict 10): event does not go with action
 message 3: swap LEDGERTESTSWAP0000001, action PRTO (moved to another repository), event PTNG
   accepted (verdict 0); no tape line is written
-message 4: no swap named, action newt (none of the eight actions)
+message 4: no swap named, action newt (none of the seven actions)
   refused (verdict 6): action missing or unknown; element 2, action type
 message 5: swap LEDGERTESTSWAP0000001, action EROR (entered in error)
   refused (verdict 9): value breaks its form; element 4, event timestamp
@@ -46,7 +46,7 @@ end: all input was read; messages judged: 5, tape lines published: 1
 
 #[test]
 fn each_action() {
-    let meanings: [(&[u8], &str); 8] = [
+    let meanings: [(&[u8], &str); 7] = [
         (b"NEWT", "NEWT (a new swap)"),
         (b"MODI", "MODI (a change of terms)"),
         (b"CORR", "CORR (a correction)"),
@@ -54,7 +54,6 @@ fn each_action() {
         (b"EROR", "EROR (entered in error)"),
         (b"REVI", "REVI (brought back)"),
         (b"PRTO", "PRTO (moved to another repository)"),
-        (b"VALU", "VALU (its current value)"),
     ];
     for (action, words) in meanings {
         let words = format!(
@@ -82,26 +81,6 @@ message 2: swap LEDGERTESTSWAP0000001, action CORR (a correction)
 message 3: swap LEDGERTESTSWAP0000001, action REVI (brought back)
   refused (verdict 11): conditional element missing; element 28, spread currency
 end: all input was read; messages judged: 3, tape lines published: 0
-";
-    gives(&day, report, words);
-}
-
-#[test]
-fn valuations() {
-    let valu = || message(&[(1, UTI), (2, b"VALU"), (4, TIME)]);
-    let with_event = message(&[(1, UTI), (2, b"VALU"), (3, b"TRAD"), (4, TIME)]);
-    let day = day(&[valu(), valu(), valu(), with_event]);
-    let report = "message verdict element record\n1 0 0 0\n2 21 0 0\n3 9 30 0\n4 8 3 0\nend 4 0\n";
-    let words = "\
-message 1: swap LEDGERTESTSWAP0000001, action VALU (its current value)
-  accepted (verdict 0); no tape line is written
-message 2: swap LEDGERTESTSWAP0000001, action VALU (its current value)
-  refused (verdict 21): valuation earlier than the one held
-message 3: swap LEDGERTESTSWAP0000001, action VALU (its current value)
-  refused (verdict 9): value breaks its form; element 30, valuation amount
-message 4: swap LEDGERTESTSWAP0000001, action VALU (its current value), event TRAD
-  refused (verdict 8): element not taken by this action; element 3, event type
-end: all input was read; messages judged: 4, tape lines published: 0
 ";
     gives(&day, report, words);
 }
@@ -165,7 +144,7 @@ fn unreadable_messages() {
     // Offsets that fall, and an empty value.
     first_line(
         b"\x02\0\x01\0\x0b\0\x02\0\x0a\0AB",
-        "the swap cannot be read, action AB (none of the eight actions)",
+        "the swap cannot be read, action AB (none of the seven actions)",
     );
     first_line(
         b"\x02\0\x01\0\x0a\0\x02\0\x0a\0TERM",

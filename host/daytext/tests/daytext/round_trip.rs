@@ -118,7 +118,7 @@ fn right_days_cut_anywhere() {
 #[test]
 fn the_longest_messages() {
     let mut random = Random::new(6);
-    for start in [[0, 0], [1, 0], [32, 0], [0xff, 0xff]] {
+    for start in [[0, 0], [1, 0], [28, 0], [0xff, 0xff]] {
         let mut day = vec![0xff, 0xff];
         day.extend(start);
         day.extend(random.bytes(65533));

@@ -39,9 +39,6 @@ v6 c = v5 c.before.before.before
 abbrev v7 : tie.Else7 → Bytes
 v7 c = v6 c.before.before.before
 
-abbrev v8 : tie.Else8 → Bytes
-v8 c = v7 c.before.before.before
-
 passed1 : (c : tie.Else1) → action_of (v1 c) ≡ rest 1 (v1 c)
 unfolding action_of rest text
 passed1 c = look_up_next action_codes (Fault action_type) 0 (lit< tt) _ _ c.before.is_code.ensures c.if1.false
@@ -70,10 +67,6 @@ passed7 : (c : tie.Else7) → action_of (v7 c) ≡ rest 7 (v7 c)
 unfolding action_of rest text
 passed7 c = passed6 c.before.before.before ∙ look_up_next action_codes (Fault action_type) 6 (lit< tt) _ _ c.before.is-code7.ensures c.if7.false
 
-passed8 : (c : tie.Else8) → action_of (v8 c) ≡ rest 8 (v8 c)
-unfolding action_of rest text
-passed8 c = passed7 c.before.before.before ∙ look_up_next action_codes (Fault action_type) 7 (lit< tt) _ _ c.before.is-code8.ensures c.if8.false
-
 pub read_action_spec : {M : Type 1} → statement M
 unfolding action_of rest text look_up
 read_action_spec =
@@ -93,6 +86,4 @@ read_action_spec =
     (λ c. look_up_found action_codes (Fault action_type) 5 (lit< tt) _ _ c.before.is-code6.ensures c.if6.true ∙ sym (passed5 c.before.before.before))
     (λ c κs. search rules)
     (λ c. look_up_found action_codes (Fault action_type) 6 (lit< tt) _ _ c.before.is-code7.ensures c.if7.true ∙ sym (passed6 c.before.before.before))
-    (λ c κs. search rules)
-    (λ c. look_up_found action_codes (Fault action_type) 7 (lit< tt) _ _ c.before.is-code8.ensures c.if8.true ∙ sym (passed7 c.before.before.before))
-    (λ c. sym (passed8 c)))
+    (λ c. sym (passed7 c)))

@@ -1,5 +1,5 @@
 -- `dayrun::judging::judge_next` meets its contract. Assumes nothing.
-use Prim.Native.Nat.{ℕ, ◌+◌, ◌-◌, ◌^◌, ◌<◌, ◌≤◌}
+use Prim.Native.Nat.{ℕ, ◌+◌, ◌-◌, ◌≤◌, ◌<◌}
 use mathlib.Core.Path.{◌≡◌, sym, ap, ◌∙◌, subst}
 use native.Mathlib.Omega.{arith}
 use borrow.Author.Rules.{rules}
@@ -23,7 +23,7 @@ use Rattle.dayrun.proofs.judging.judge_next.Statement.{statement}
 use Rattle.dayrun.proofs.judging.judge_next.Tie as tie
 
 abbrev start : tie.After-next-frame → tie.Start
-start c = c.before.before.before.before.before.before.before
+start c = c.before.before.before.before.before.before
 
 -- what is left of the input
 abbrev rest : tie.After-next-frame → Bytes
@@ -49,18 +49,11 @@ message_fits c = lies_within _ _ _ (start c.before.before).requires.0 (subst (Wi
 overlong_fits : (c : tie.After-n2) → (start c.before.before).args.p.at + (length_size + c.n2.given.0.0) ≤ length (start c.before.before).args.input.now
 overlong_fits c = lies_within _ _ _ (start c.before.before).requires.0 (subst (WithinInput (rest c.before.before)) c.n2.given.1 (fits c.before.before))
 
--- so the place behind the message is a number of 64 bits
-size_fits : (c : tie.Start) → length c.args.input.now < 2 ^ 64
-size_fits c = search rules
-
-message_small : (c : tie.After-n) → (start c.before.before).args.p.at + (length_size + c.n.given.0.0) < 2 ^ 64
-message_small c = omega (arith, message_fits c, size_fits (start c.before.before))
-
 add-report : tie.Need-overflow-add-report
-add-report c = omega (arith, message_small c.before.before.before.before.before.before.before.before.before.before.before.before.before)
+add-report c = omega (arith, message_fits c.before.before.before.before.before.before.before.before.before.before)
 
 report-requires : tie.Need-report-requires
-report-requires c κs = (message_small c.before.before.before.before.before.before.before.before.before.before.before.before.before, search rules)
+report-requires c κs = (omega (arith, message_fits c.before.before.before.before.before.before.before.before.before.before), search rules)
 
 add-report-2 : tie.Need-overflow-add-report-2
 add-report-2 c = omega (arith, overlong_fits c.before.before)
@@ -71,16 +64,16 @@ report-requires-2 c κs = (omega (arith, overlong_fits c.before.before.before), 
 returns : tie.Need-returns
 returns c =
     let r = c.before.before in
-    let k = r.before.before.before.before.before.before.before.before in
-    let m = k.before.before.before.before in
+    let k = r.before.before.before.before.before.before in
+    let m = k.before.before.before in
     let n = m.before.before in
     let f = n.before.before in
     let a = (start f).args in
     let size = n.n.given.0.0 in
-    let judged : Bytes → Submitted = λ x. submitted document_limits (lent_of a.ledger.now a.values.now a.tape.now) x in
+    let judged : Bytes → Submitted = λ x. submitted document_limits (lent_of a.ledger.now a.tape.now) x in
     let sent : m.part_of.result.now ≡ part (rest f) length_size size =
     m.part_of.ensures.0 ∙ ap (λ (xs : Bytes). part xs length_size size) (all_lent a.input.now a.p.at) in
-    let ensured : step_at (lent_of a.ledger.now a.values.now a.tape.now) a.input.now a.p ≡ answered (day_of (lent_of a.ledger.now a.values.now a.tape.now) a.p) size (judged (part (rest f) length_size size)) =
+    let ensured : step_at (lent_of a.ledger.now a.tape.now) a.input.now a.p ≡ answered (day_of (lent_of a.ledger.now a.tape.now) a.p) size (judged (part (rest f) length_size size)) =
     step_on_lem _ (rest f) (Message size) (sym (front f) ∙ n.n.given.1) in
     let same : k.submit.result ≡ submission_answer (judged (part (rest f) length_size size)) = k.submit.ensures.0 ∙ ap (λ (x : Bytes). submission_answer (judged x)) sent in (
       r.report.ensures.0 ∙ progress_is _ (rest f) a.p size _ ensured _ same,
@@ -101,7 +94,7 @@ returns-2 c =
     let f = n.before.before in
     let a = (start f).args in
     let size = n.n2.given.0.0 in
-    let ensured : step_at (lent_of a.ledger.now a.values.now a.tape.now) a.input.now a.p ≡ answered (day_of (lent_of a.ledger.now a.values.now a.tape.now) a.p) size (refused (layout_wrong, 0) (lent_of a.ledger.now a.values.now a.tape.now)) =
+    let ensured : step_at (lent_of a.ledger.now a.tape.now) a.input.now a.p ≡ answered (day_of (lent_of a.ledger.now a.tape.now) a.p) size (refused (layout_wrong, 0) (lent_of a.ledger.now a.tape.now)) =
     step_on_lem _ (rest f) (Overlong size) (sym (front f) ∙ n.n2.given.1) in (
       r.report2.ensures.0 ∙ progress_is _ (rest f) a.p size _ ensured _ k.refusal.ensures,
       (
@@ -117,10 +110,10 @@ returns-3 : tie.Need-returns-3
 returns-3 c =
     let f = c.before.before in
     let a = (start f).args in
-    let ensured : step_at (lent_of a.ledger.now a.values.now a.tape.now) a.input.now a.p ≡ step_on (day_of (lent_of a.ledger.now a.values.now a.tape.now) a.p) (rest f) Partial =
+    let ensured : step_at (lent_of a.ledger.now a.tape.now) a.input.now a.p ≡ step_on (day_of (lent_of a.ledger.now a.tape.now) a.p) (rest f) Partial =
     step_on_lem _ (rest f) Partial (sym (front f) ∙ c.enum_told.given.1) in
     let short : length (rest f) < longest_frame = subst (WithinInput (rest f)) c.enum_told.given.1 (fits f) in (
-      unmoved (lent_of a.ledger.now a.values.now a.tape.now) (rest f) a.p ∙ ap (progress_after a.p) (sym ensured),
+      unmoved (lent_of a.ledger.now a.tape.now) (rest f) a.p ∙ ap (progress_after a.p) (sym ensured),
       (
         sym (splice_none a.out.now a.p.used) ∙ ap (λ (x : Step). splice a.out.now a.p.used x.line) (sym ensured),
         (
@@ -147,7 +140,6 @@ judge_next_spec =
     add-report-2
     (λ c κs. search rules)
     report-requires-2
-    (λ c. search rules)
     (λ c. search rules)
     (λ c. search rules)
     (λ c. search rules)

@@ -49,29 +49,19 @@ returns-15 : tie.Need-returns-15
 returns-15 c = rw c.before.enum-told15.given.1 c.is-notional.ensures
 
 returns-16 : tie.Need-returns-16
-returns-16 c = rw c.before.enum-told16.given.1 c.is-signed-amount.ensures
+returns-16 c = rw c.before.enum-told16.given.1 c.is-location.ensures.0
 
 returns-17 : tie.Need-returns-17
-returns-17 c = rw c.before.enum-told17.given.1 c.is-location.ensures.0
+returns-17 c = rw c.before.enum-told17.given.1 c.is-lei.ensures
 
 returns-18 : tie.Need-returns-18
-returns-18 c = rw c.before.enum-told18.given.1 c.is-lei.ensures
-
-returns-19 : tie.Need-returns-19
-returns-19 c = rw c.before.enum-told19.given.1 c.is-asset-class.ensures
-
-returns-20 : tie.Need-returns-20
-returns-20 c = rw c.before.enum-told20.given.1 c.is-valuation-method.ensures
+returns-18 c = rw c.before.enum-told18.given.1 c.is-asset-class.ensures
 
 pub fits_form_spec : {M : Type 1} → statement M
 fits_form_spec =
     tie.close
     (tie.spec
     (λ c. search rules)
-    (λ c. search rules)
-    (λ c κs. search rules)
-    (λ c. search rules)
-    (λ c κs. search rules)
     (λ c. search rules)
     (λ c κs. search rules)
     (λ c. search rules)
@@ -123,6 +113,4 @@ fits_form_spec =
     returns-15
     returns-16
     returns-17
-    returns-18
-    returns-19
-    returns-20)
+    returns-18)

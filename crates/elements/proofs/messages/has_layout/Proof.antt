@@ -11,4 +11,4 @@ returns c = c.layout-right.ensures.0
 pub has_layout_spec : {M : Type 1} → statement M
 has_layout_spec =
     tie.close
-    (tie.spec (λ c. search rules) (λ c. search rules) (λ c. search rules) (λ c. search rules) (λ c κs. search rules) returns)
+    (tie.spec (λ c. search rules) (λ c. search rules) (λ c κs. search rules) returns)

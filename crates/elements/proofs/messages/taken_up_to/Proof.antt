@@ -2,7 +2,7 @@
 use mathlib.Core.Path.{refl, sym, ◌∙◌}
 use Rattle.octets.specs.Search.{all_from}
 use Rattle.elements.specs.Table.{element_of}
-use Rattle.elements.proofs.TakenLaws.{full_up_to, short_up_to, valuation_up_to}
+use Rattle.elements.proofs.TakenLaws.{full_up_to, short_up_to}
 use borrow.Author.Rules.{rules}
 use Rattle.elements.proofs.messages.taken_up_to.Statement.{statement}
 use Rattle.elements.proofs.messages.taken_up_to.Tie as tie
@@ -13,11 +13,7 @@ returns c = full_up_to c.before.before.args.a (sym c.before.is-full.ensures ∙ 
 
 returns-2 : tie.Need-returns-2
 unfolding element_of all_from
-returns-2 c = valuation_up_to c.before.before.before.before.args.a (sym c.before.is-valuation.ensures ∙ c.if2.true) _ refl
-
-returns-3 : tie.Need-returns-3
-unfolding element_of all_from
-returns-3 c = short_up_to c.before.before.before.before.args.a (sym c.before.is-valuation.ensures ∙ c.if2.false) _ refl
+returns-2 c = short_up_to c.before.before.args.a _ refl
 
 pub taken_up_to_spec : {M : Type 1} → statement M
-taken_up_to_spec = tie.close (tie.spec (λ c κs. search rules) returns (λ c κs. search rules) returns-2 returns-3)
+taken_up_to_spec = tie.close (tie.spec (λ c κs. search rules) returns returns-2)

@@ -1,18 +1,17 @@
 -- `repository::apply::apply` meets its contract. Assumes nothing.
 use mathlib.Core.Path.{ap, ap₂, ◌∙◌}
-use Rattle.octets.specs.Bytes.{Bytes}
 use Rattle.ledger.specs.Rows.{rows_after, header_after}
 use Rattle.ledger.specs.Line.{line}
 use Rattle.ledger.proofs.ReadBack.{rows_after_total}
 use Rattle.submission.specs.Lent.{lent_of}
 use Rattle.submission.specs.Submission.{swap_of, line_due_in, terms_for, tape_after}
-use Rattle.repository.proofs.AdmissionLaws.{uti_fits, line_is, ledger_is, values_are}
+use Rattle.repository.proofs.AdmissionLaws.{uti_fits, line_is, ledger_is}
 use borrow.Author.Rules.{rules}
 use Rattle.repository.proofs.apply.apply.Statement.{statement}
 use Rattle.repository.proofs.apply.apply.Tie as tie
 
 abbrev start : tie.After-publish → tie.Start
-start c = c.before.before.before.before.before.before.before
+start c = c.before.before.before.before.before.before
 
 store-row-requires : tie.Need-store-row-requires
 store-row-requires c κs =
@@ -28,13 +27,9 @@ update-header-requires c κs =
     let kept = rows_after_total x.s.action x.due x.s.status r.before.element.result.now x.s.next x.terms.now x.s.place x.l.now f.3 f.0.row x.s.before f.0.before in
     (search rules, f.0.rows, f.0.next, f.0.before, f.0.least, f.0.most, λ h. rw (r.store-row.ensures, kept) (f.0.counted h))
 
-update-values-requires : tie.Need-update-values-requires
-update-values-requires c κs = let r = c.before.before.before.before.before.before.before in (start r.before.before.before.before.before).requires.0.values
-
 returns : tie.Need-returns
 returns c =
-    let v = c.before.before in
-    let h = v.before.before.before.before in
+    let h = c.before.before in
     let r = h.before.before.before.before in
     let p = r.before.before.before.before.before in
     let f = (start p).requires in
@@ -54,7 +49,7 @@ returns c =
     let ledger = h.update-header.ensures
     ∙ ap₂ (λ d z. header_after a d s.before s.status s.rows s.next z) f.1 row
     ∙ ledger_is f.0 in
-    ap₂ (λ (x : Bytes × Bytes) t. lent_of x.0 x.1 t) (ap₂ {C = Bytes × Bytes} (λ y z. (y, z)) ledger (v.update-values.ensures.0 ∙ values_are f.0)) line
+    ap₂ lent_of ledger line
 
 pub apply_spec : {M : Type 1} → statement M
 apply_spec =
@@ -64,8 +59,6 @@ apply_spec =
     (λ c κs. search rules)
     store-row-requires
     update-header-requires
-    update-values-requires
-    (λ c. search rules)
     (λ c. search rules)
     (λ c. search rules)
     returns)

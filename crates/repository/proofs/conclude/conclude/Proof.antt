@@ -12,11 +12,11 @@ use Rattle.repository.proofs.conclude.conclude.Statement.{statement}
 use Rattle.repository.proofs.conclude.conclude.Tie as tie
 
 abbrev start : tie.After-collect-terms → tie.Start
-start c = c.before.before.before.before.before.before.before
+start c = c.before.before.before.before.before.before
 
 collect-terms-requires : tie.Need-collect-terms-requires
 collect-terms-requires c κs =
-    let f = c.before.before.before.before.before.before.requires in
+    let f = c.before.before.before.before.before.requires in
     (refl, f.row, f.cap)
 
 -- the terms that were collected
@@ -44,13 +44,13 @@ returns c =
 
 apply-requires : tie.Need-apply-requires
 apply-requires c κs =
-    let d = c.before.before.before.before.before.before in
+    let d = c.before.before.before.before.before in
     ((start (collected d)).requires, due d, terms (collected d), long (collected d))
 
 returns-2 : tie.Need-returns-2
 returns-2 c =
-    let p = c.before.before.before.before.before.before.before in
-    let e = p.before.before.before.before.before in
+    let p = c.before.before.before.before.before in
+    let e = p.before.before.before.before in
     let d = e.before.before in
     rw (sym (spent e.before) ∙ e.if1.false) (c.accepted-with.ensures ∙ ap₂ (λ b n. answer_with 0 0 0 (choose b n 0)) (due d) (next_is (start (collected d)).requires), p.apply.ensures)
 
@@ -70,7 +70,6 @@ conclude_spec =
     (λ c. search rules)
     apply-requires
     (λ c κs. search rules)
-    (λ c. search rules)
     (λ c. search rules)
     (λ c. search rules)
     returns-2)

@@ -15,7 +15,7 @@ use Rattle.repository.proofs.decide.decide.Statement.{statement}
 use Rattle.repository.proofs.decide.decide.Tie as tie
 
 abbrev s1 : tie.After-known-told → tie.Start
-s1 c = c.before.before.before.before.before.before.before.before
+s1 c = c.before.before.before.before.before.before.before
 
 abbrev header : tie.After-known-told → Header
 header c = c.before.header.given.0.0
@@ -31,7 +31,7 @@ returns c =
 
 returns-2 : tie.Need-returns-2
 unfolding submission_rules decision_from from_rule before_rule first_broken
-returns-2 c = rw (known c.before).0 (c.decide-values.ensures (s1 c.before).args.largest) ∙ from_first _ _ _
+returns-2 c = rw (known c.before).0 (c.decide-tape.ensures (s1 c.before).args.largest) ∙ from_first _ _ _
 
 pub decide_spec : {M : Type 1} → statement M
 decide_spec =
@@ -41,5 +41,5 @@ decide_spec =
     (λ c. search rules)
     (λ c. search rules)
     returns
-    (λ c κs. let f = used_fit _ _ (header c) (known c).0 (known c).1 in ((known c).1, f.0, f.1))
+    (λ c κs. ((known c).1, used_fit _ _ (header c) (known c).0 (known c).1))
     returns-2)

@@ -9,11 +9,11 @@ use Rattle.repository.proofs.decide.decide_room.Tie as tie
 
 returns : tie.Need-returns
 unfolding decided_from swap_rules from_rule first_broken
-returns c swap time held m = rw (sym c.before.finds-full.ensures ∙ c.if1.true)
+returns c swap time m = rw (sym c.before.finds-full.ensures ∙ c.if1.true)
 
 returns-2 : tie.Need-returns-2
 unfolding decided_from swap_rules from_rule first_broken
-returns-2 c swap time held m = rw (sym c.before.finds-full.ensures ∙ c.if1.false)
+returns-2 c swap time m = rw (sym c.before.finds-full.ensures ∙ c.if1.false)
 
 pub decide_room_spec : {M : Type 1} → statement M
 decide_room_spec = tie.close (tie.spec (λ c κs. search rules) returns returns-2)

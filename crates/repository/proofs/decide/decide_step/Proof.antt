@@ -19,7 +19,7 @@ unfolding decided_from swap_rules from_rule first_broken is_not_admitted
 returns-2 c =
     let e = c.before in
     rw (ap (λ s. eqb s no_step) (sym e.before.status-after.ensures) ∙ ne_eqb _ _ e.if1.false, ← e.before.status-after.ensures)
-    (c.decide-earlier.ensures e.before.before.before.before.before.args.swap)
+    (c.decide-time.ensures e.before.before.before.before.args.swap)
 
 pub decide_step_spec : {M : Type 1} → statement M
 decide_step_spec = tie.close (tie.spec (λ c κs. search rules) returns (λ c κs. search rules) returns-2)

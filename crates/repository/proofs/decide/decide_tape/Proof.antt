@@ -12,7 +12,7 @@ use Rattle.repository.proofs.decide.decide_tape.Statement.{statement}
 use Rattle.repository.proofs.decide.decide_tape.Tie as tie
 
 abbrev start : tie.Else1 → tie.Start
-start c = c.before.before.before.before.before
+start c = c.before.before.before.before
 
 returns : tie.Need-returns
 unfolding submission_rules finding_of before_rule
@@ -20,7 +20,7 @@ returns c largest = test_stops tape_short _ _ _ refl (ap broken_if (lt-ltb _ _ c
 
 returns-2 : tie.Need-returns-2
 unfolding decision_from submission_rules rules_for from_rule before_rule first_broken
-returns-2 c largest = rw (le-ltb _ _ c.before.if1.false) (c.decide-message.ensures largest (start c.before).args.tape.now)
+returns-2 c largest = rw (le-ltb _ _ c.before.if1.false) (c.decide-message.ensures largest (record { tape = (start c.before).args.tape.now }))
 
 pub decide_tape_spec : {M : Type 1} → statement M
 decide_tape_spec = tie.close (tie.spec returns (λ c κs. search rules) returns-2)

@@ -9,11 +9,11 @@ use Rattle.repository.proofs.decide.decide_time.Tie as tie
 
 returns : tie.Need-returns
 unfolding decided_from swap_rules from_rule first_broken
-returns c swap held = rw (sym c.before.has-other-time.ensures ∙ c.if1.true)
+returns c swap = rw (sym c.before.has-other-time.ensures ∙ c.if1.true)
 
 returns-2 : tie.Need-returns-2
 unfolding decided_from swap_rules from_rule first_broken
-returns-2 c swap held = rw (sym c.before.before.has-other-time.ensures ∙ c.before.if1.false) (let a = c.before.before.before.before.before.args in c.decide-room.ensures swap a.time.now held a.m.now)
+returns-2 c swap = rw (sym c.before.before.has-other-time.ensures ∙ c.before.if1.false) (let a = c.before.before.before.before.before.args in c.decide-room.ensures swap a.time.now a.m.now)
 
 pub decide_time_spec : {M : Type 1} → statement M
 decide_time_spec = tie.close (tie.spec (λ c κs. search rules) returns (λ c κs. search rules) returns-2)

@@ -13,7 +13,7 @@ use Rattle.ledger.proofs.RightHeader.{header_checked, used_fit}
 use Rattle.submission.specs.Status.{status_rules, asked}
 use Rattle.submission.specs.Submission.{has_wrong_row}
 use Rattle.repository.specs.Decision.{HeaderRead}
-use Rattle.repository.proofs.DecisionLaws.{rows_within, wrong_read}
+use Rattle.repository.proofs.DecisionLaws.{rows_read, wrong_read}
 use borrow.Author.Rules.{rules}
 use Rattle.repository.proofs.operations.status.Statement.{statement}
 use Rattle.repository.proofs.operations.status.Tie as tie
@@ -44,7 +44,7 @@ returns-2 c longest =
     c.refusal2.ensures ∙ rw ((right h.before).0, sym h.has-form.ensures ∙ not-true _ c.before.if1.true)
 
 read : (c : tie.Else1) → HeaderRead (header (k1 c)) (s1 (k1 c)).args.l.now
-read c = let f = used_fit _ _ (header (k1 c)) (right (k1 c)).0 (right (k1 c)).1 in ((right (k1 c)).1, f.0, f.1)
+read c = ((right (k1 c)).1, used_fit _ _ (header (k1 c)) (right (k1 c)).0 (right (k1 c)).1)
 
 -- rule 14 on what was looked up
 wrong : (c : tie.After-has-wrong-row) → has_wrong_row (header_of (s1 (k1 c.before.before)).args.l.now) (swap_in (s1 (k1 c.before.before)).args.l.now (s1 (k1 c.before.before)).args.uti.now) ≡ c.has-wrong-row.result
@@ -76,7 +76,7 @@ status_spec =
     (λ c κs. search rules)
     (λ c κs. search rules)
     returns-2
-    (λ c κs. rows_within _ _ (read c))
+    (λ c κs. let r = rows_read _ _ (read c) in (r.0, (read c).1))
     (λ c κs. search rules)
     (λ c κs. search rules)
     returns-3

@@ -1,7 +1,5 @@
 -- `repository::operations::submit` meets its contract. Assumes nothing.
-use Prim.Native.Nat.{◌^◌, ◌<◌}
 use mathlib.Core.Path.{◌≡◌, sym, ap, ◌∙◌}
-use Rattle.ledger.specs.Layout.{u32}
 use Rattle.submission.specs.Opening.{Limits}
 use Rattle.submission.specs.Lent.{Lent, lent_of}
 use Rattle.submission.specs.Submission.{Submitted, submitted}
@@ -14,13 +12,13 @@ use Rattle.repository.proofs.operations.submit.Statement.{statement}
 use Rattle.repository.proofs.operations.submit.Tie as tie
 
 abbrev start : tie.After-decide → tie.Start
-start c = c.before.before.before.before.before.before.before.before
+start c = c.before.before.before.before.before.before
 
 abbrev limits : tie.After-decide → Limits
 limits c = limits_of (start c).args.longest (start c).args.largest
 
 abbrev lent : tie.After-decide → Lent
-lent c = lent_of (start c).args.l.now (start c).args.values.now (start c).args.tape.now
+lent c = lent_of (start c).args.l.now (start c).args.tape.now
 
 -- what the submission is, by the decision that was made
 is : (c : tie.After-decide) (d : Decision) → c.decide.result ≡ d → submitted (limits c) (lent c) (start c).args.m.now ≡ submitted_by d (lent c) (start c).args.m.now
@@ -32,19 +30,16 @@ returns c =
     let s = is t.before.before _ t.enum_told.given.1 in
     (c.answer-of.ensures ∙ ap decision_answer t.enum_told.given.1 ∙ sym (ap submission_answer s), sym (ap (λ (x : Submitted). x.lent) s))
 
-small : (c : tie.Start) → c.args.largest < 256 ^ u32
-small c = search rules
-
 conclude-requires : tie.Need-conclude-requires
 conclude-requires c κs =
-    let k = c.before.before.before in
+    let k = c.before.before in
     let d = k.before.before.before in
-    writable (limits d) (lent d) (start d).args.m.now _ (small (start d)) (sym d.decide.ensures ∙ k.before.decision.given.1)
+    writable (limits d) (lent d) (start d).args.m.now _ (search rules) (sym d.decide.ensures ∙ k.before.decision.given.1)
 
 returns-2 : tie.Need-returns-2
 returns-2 c =
-    let p = c.before.before.before.before.before.before in
-    let k = p.before.before.before.before in
+    let p = c.before.before.before.before in
+    let k = p.before.before.before in
     let s = is k.before.before.before _ k.before.decision.given.1 in
     (p.conclude.ensures.0 ∙ sym (ap submission_answer s), p.conclude.ensures.1 ∙ sym (ap (λ (x : Submitted). x.lent) s))
 
@@ -58,10 +53,8 @@ submit_spec =
     (λ c κs. search rules)
     (λ c. search rules)
     (λ c. search rules)
-    (λ c. search rules)
     returns
     conclude-requires
-    (λ c. search rules)
     (λ c. search rules)
     (λ c. search rules)
     returns-2)
