@@ -14,10 +14,10 @@ use borrow.Author.Tests.{ltb-true, ltb-false, lt-ltb, le-ltb, eqb-true, eq-eqb, 
 use Rattle.octets.specs.Bytes.{Bytes}
 use Rattle.octets.specs.Choice.{choose, both}
 use Rattle.octets.specs.Search.{first_from, all}
-use Rattle.octets.proofs.ChoiceLaws.{both_first, both_second, both_none}
+use Rattle.octets.proofs.ChoiceLaws.{both_first, both_second, both_last, both_none}
 use Rattle.octets.proofs.SearchLaws.{all_at, first_le, first_passes}
 use Rattle.message.specs.Layout.{count_size, entry_size, count, code_at, offset_at, header_size, entry_right, layout_right}
-use Rattle.message.specs.Values.{entries, entry_from, end_of, value_at, value, values_from}
+use Rattle.message.specs.Values.{entries, entry_from, end_of, value_at, value, is_there, values_from}
 use Rattle.message.specs.Laws.{LayoutLaws}
 
 -- a first entry without room behind the header is wrong
@@ -142,6 +142,24 @@ module _ (longest most : ℕ) (known : List Bool) (m : Bytes) (right : layout_ri
           append-nil _ ∙ take_all (header_size m) m (omega arith)
       go (suc d) e = rw (values_rest d 0 (omega arith), offset_first (omega arith)) (take-append-drop (header_size m) m)
 
+  -- so it is as long as these
+  pub length_whole : length m ≡ header_size m + length (values_from m 0 (count m))
+  unfolding values_from
+  length_whole = go (count m) refl
+    where
+      go : (n : ℕ) → count m ≡ n → length m ≡ header_size m + length (values_from m 0 n)
+      go zero e = omega (arith, count_alone e)
+      go (suc d) e =
+          let some : 0 < count m = omega arith in
+          omega (arith, header_whole some, offset_first some, ap length (values_rest d 0 (omega arith)), length-drop (offset_at m 0) m)
+
+  -- under another longest message only its length is asked
+  pub layout_within : (other : ℕ) → layout_right other most known m ≡ leb (length m) other
+  unfolding layout_right
+  layout_within other =
+      rw (both_first (leb count_size (length m)) _ right)
+      (both_last (leb (length m) other) _ (both_second (leb (length m) longest) _ (both_second (leb count_size (length m)) _ right)))
+
   -- an element without a value has no entry
   pub missing : (code : ℕ) → value code m ≡ [] → (k : ℕ) → k < count m → code_at m k ≡ code → ⊥
   unfolding value entry_from
@@ -181,6 +199,15 @@ module _ (longest most : ℕ) (known : List Bool) (m : Bytes) (right : layout_ri
   pub value_found : (k : ℕ) → k < count m → value (code_at m k) m ≡ value_at m k
   unfolding value
   value_found k h = ap (value_at m) (entry_found k h)
+
+  -- an element is there where its entry is
+  pub there_entry : (code : ℕ) → is_there code m ≡ ltb (entry_from m code 0) (count m)
+  unfolding is_there value value_at
+  there_entry code = go (entry_from m code 0) (ltb (entry_from m code 0) (count m)) refl
+    where
+      go : (k : ℕ) (t : Bool) → ltb k (count m) ≡ t → ltb 0 (length (value_at m k)) ≡ t
+      go k true e = lt-ltb _ _ (value_filled k (ltb-true _ _ e))
+      go k false e = rw (entries_all, e)
 
 -- what `layout_right` cites
 pub layout_laws : LayoutLaws

@@ -1,4 +1,5 @@
 pub mod LayoutLaws
+pub mod SameLaws
 pub mod ReadingLaws
 pub mod Walk
 pub mod Held

@@ -38,7 +38,7 @@ absent m code nowhere = rw sub-zero (go (ltb found (entries m)) refl)
     go false e = rw e
 
 -- and one that is not there is missing
-not_there : (m : Bytes) (code : ℕ) → is_there code m ≡ false → value code m ≡ []
+pub not_there : (m : Bytes) (code : ℕ) → is_there code m ≡ false → value code m ≡ []
 unfolding is_there
 not_there m code e = go (value code m) e
   where

@@ -1,5 +1,5 @@
 -- Specification, section 2: the value of an element.
-use Rattle.std.specs.Prelude.{ℕ, zero, suc, ◌+◌, ◌-◌, ◌/◌, min, Bool, [], ◌++◌, length, ltb, eqb}
+use Rattle.std.specs.Prelude.{ℕ, zero, suc, ◌+◌, ◌-◌, ◌/◌, ◌<◌, min, Bool, ◌≡◌, [], ◌++◌, length, ltb, eqb}
 use Rattle.octets.specs.Bytes.{Bytes}
 use Rattle.octets.specs.Choice.{choose}
 use Rattle.octets.specs.Search.{first_from}
@@ -38,3 +38,7 @@ is_there code m = ltb 0 (length (value code m))
 unfoldable pub values_from : Bytes → ℕ → ℕ → Bytes
 values_from m k zero = []
 values_from m k (suc d) = value_at m k ++ values_from m (suc k) d
+
+-- two messages have the same codes, entry by entry
+abbrev pub SameCodes : Bytes → Bytes → Type 0
+SameCodes m₁ m₂ = (count m₁ ≡ count m₂) × ((k : ℕ) → k < count m₁ → code_at m₁ k ≡ code_at m₂ k)

@@ -1,3 +1,4 @@
 pub mod FindingLaws
 pub mod JudgeLaws
 pub mod VerdictLaws
+pub mod ValuesDecide
