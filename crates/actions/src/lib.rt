@@ -1,4 +1,6 @@
 // The seven actions (specification, section 5): how they are read, which events go with each, and the steps of a swap's status.
+#![tactic(auto)]
+
 mod matrix;
 mod statuses;
 mod table;

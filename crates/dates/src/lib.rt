@@ -1,4 +1,6 @@
 // Dates and times (specification, clauses 4.4 and 4.5): the forms of codes 4 to 9, and their order.
+#![tactic(auto)]
+
 ghost use Rattle.std.specs.Prelude.{◌≡◌, ◌<◌};
 ghost use Rattle.dates.specs.Dates.{fits_byte, fits_pattern, digit_at, two_digits, leap, days_in, gregorian, names_date, is_date, is_time, before, DateOrder, TimeOrder};
 

@@ -1,4 +1,6 @@
 // A day of messages: where one ends and the next begins in the input, and the lines of the report. Specification, section 11.
+#![tactic(auto)]
+
 mod frame;
 mod report;
 

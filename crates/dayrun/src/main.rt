@@ -1,4 +1,6 @@
 // Judges a day of messages from standard input and writes its report to standard output: specification, section 11.
+#![tactic(auto)]
+
 mod input;
 mod judging;
 mod output;

@@ -1,5 +1,7 @@
 // The elements of a message: the table of the specification's section 3, with a row for each code, and what is read off it: the messages that take and need an
 // element, its form, and the conditions.
+#![tactic(auto)]
+
 mod conditions;
 mod forms;
 mod messages;

@@ -1,6 +1,8 @@
 // Currencies and locations (specification, clause 4.14): the codes of ISO 4217 and ISO 3166-1.
 // A code is matched as one number: its bytes, the first highest, and a zero byte behind them. The zero keeps the numbers apart:
 // a match turns numbers that follow each other into ranges, and each range is a case of its own in the proof.
+#![tactic(auto)]
+
 ghost use Rattle.std.specs.Prelude.{◌≡◌};
 ghost use Rattle.iso.specs.Codes.{is_currency, is_location, CurrencyCapitals, LocationCapitals};
 

@@ -1,4 +1,6 @@
 // The ledger of swaps and the tape line: specification, sections 7 and 8.
+#![tactic(auto)]
+
 mod header;
 mod layout;
 mod line;

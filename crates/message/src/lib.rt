@@ -1,4 +1,6 @@
 // A message: its layout, and the value of an element as that part of the message itself. Specification, section 2.
+#![tactic(auto)]
+
 mod entries;
 mod layout;
 

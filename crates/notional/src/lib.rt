@@ -1,4 +1,6 @@
 // The masked notional (specification, section 6): the exact amount of a value, rounded by its band and capped.
+#![tactic(auto)]
+
 ghost use Rattle.std.specs.Prelude.{◌≡◌, ℕ, ◌+◌, ◌*◌, ◌<◌, ◌≤◌, min};
 ghost use Rattle.numbers.specs.Numbers.{whole_of};
 ghost use Rattle.notional.specs.Amount.{unit, digit, spelled, fraction, amount};

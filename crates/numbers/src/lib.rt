@@ -1,4 +1,6 @@
 // Decimal numbers (specification, clauses 4.7 to 4.9): the forms of codes 17, 20 and 26.
+#![tactic(auto)]
+
 ghost use Rattle.std.specs.Prelude.{◌≡◌, ◌≤◌, length};
 ghost use Rattle.numbers.specs.Numbers.{point_in, whole_of, decimals_of, is_number, unsigned_of, is_price, is_notional};
 

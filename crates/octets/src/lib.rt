@@ -1,5 +1,7 @@
 // Bytes: parts of a slice, numbers in bytes, copying, filling and comparing, decimal digits, fields of text.
 // A function on a whole slice has the loop; the one with `_at` lends it the part that is meant.
+#![tactic(auto)]
+
 ghost use Rattle.std.specs.Prelude.{◌≡◌, ◌+◌, ◌-◌, ◌*◌, ◌^◌, ◌<◌, ◌≤◌, min, length, get_or, take, drop, replicate, ltb};
 ghost use Rattle.octets.specs.Part.{part, splice, PartOf};
 ghost use Rattle.octets.specs.Same.{same_bytes, place_among};

@@ -1,4 +1,6 @@
 // The price or the spread in a tape line, codes 17 and 26: specification, clause 7.4.
+#![tactic(auto)]
+
 ghost use Rattle.std.specs.Prelude.{◌≡◌, ℕ, ◌+◌, ◌≤◌, List, ◌++◌, length};
 ghost use Rattle.octets.specs.Part.{splice};
 ghost use Rattle.octets.specs.Field.{field, FieldHolds};

@@ -1,5 +1,7 @@
 // The operations (specification, section 10): open a ledger, submit a message, ask the status of a swap, ask the totals. A C host reaches them through
 // include/sdr.h.
+#![tactic(auto)]
+
 mod answer;
 mod apply;
 mod conclude;

@@ -1,4 +1,6 @@
 // Verdicts 5 to 13 and 19 (specification, section 9): what is judged of a message alone.
+#![tactic(auto)]
+
 mod checks;
 mod verdicts;
 

@@ -1,5 +1,7 @@
 // The forms of values that are text (specification, section 4): runs of characters of one class, codes and LEIs.
 // Each form is a test of any bytes; everything is matched byte for byte. Numbers and dates have crates of their own.
+#![tactic(auto)]
+
 mod code;
 mod lei;
 mod limits;

@@ -1,5 +1,7 @@
 // Answers a table of tests. Each line of standard input is a word, a space and what it asks of; the line is written out with
 // the core's answer. The answers that are due come from the separate checker (host/checker).
+#![tactic(auto)]
+
 ghost use Rattle.std.specs.Prelude.{◌≤◌, length};
 
 mod fields;
