@@ -9,32 +9,32 @@ use Rattle.octets.proofs.WriteLaws.{turn, finish, drop_next}
 use Rattle.octets.proofs.copy.Statement.{statement}
 use Rattle.octets.proofs.copy.Tie as tie
 
-abbrev invariant-loop : tie.invariant-loop
+abbrev invariant-loop : tie.invariant-loop-i
 invariant-loop dst₀ src i₀ dst i = (i ≤ length src) × (length dst ≡ length dst₀) × (take i dst ++ drop i src ≡ src)
 
-abbrev decreases-loop : tie.decreases-loop
+abbrev decreases-loop : tie.decreases-loop-i
 decreases-loop dst₀ src i₀ dst i = length src - i
 
-loop-holds : tie.Need-loop-init invariant-loop decreases-loop
+loop-holds : tie.Need-loop-i-init invariant-loop decreases-loop
 loop-holds c = (search rules, refl, refl)
 
-slice-write-dst : tie.Need-slice-write-dst invariant-loop decreases-loop
+slice-write-dst : tie.Need-bounds-dst-i invariant-loop decreases-loop
 slice-write-dst c = omega arith
 
-loop-again : tie.Need-loop-preserved invariant-loop decreases-loop
+loop-again : tie.Need-loop-i-preserved invariant-loop decreases-loop
 loop-again c =
     let at = c.before.before in
     let src = at.before.args.src.now in (
       search rules,
       simp length-set (omega arith),
-      turn at.loop.dst at.loop.i (get_or src at.loop.i 0) (drop (at.loop.i + 1) src) src (omega arith)
-          (rw (drop_next src at.loop.i (omega arith)) at at.loop.invariant.2),
+      turn at.loop-i.dst at.loop-i.i (get_or src at.loop-i.i 0) (drop (at.loop-i.i + 1) src) src (omega arith)
+          (rw (drop_next src at.loop-i.i (omega arith)) at at.loop-i.invariant.2),
     )
 
 returns : tie.Need-returns invariant-loop decreases-loop
 returns c =
     let at = c.before in
-    finish at.loop.dst (drop at.loop.i at.before.args.src.now) _ at.loop.i (omega arith) (drop_of_length-le at.before.args.src.now {i = at.loop.i} (omega arith)) at.loop.invariant.2
+    finish at.loop-i.dst (drop at.loop-i.i at.before.args.src.now) _ at.loop-i.i (omega arith) (drop_of_length-le at.before.args.src.now {i = at.loop-i.i} (omega arith)) at.loop-i.invariant.2
 
 pub copy_spec : {M : Type 1} → statement M
 copy_spec =

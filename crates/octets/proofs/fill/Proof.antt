@@ -10,35 +10,35 @@ use Rattle.octets.proofs.WriteLaws.{turn, finish, left_one}
 use Rattle.octets.proofs.fill.Statement.{statement}
 use Rattle.octets.proofs.fill.Tie as tie
 
-abbrev invariant-loop : tie.invariant-loop
+abbrev invariant-loop : tie.invariant-loop-i
 invariant-loop dst₀ b i₀ dst i = (i ≤ length dst₀) × (length dst ≡ length dst₀) × (take i dst ++ replicate (length dst₀ - i) b ≡ replicate (length dst₀) b)
 
-abbrev decreases-loop : tie.decreases-loop
+abbrev decreases-loop : tie.decreases-loop-i
 decreases-loop dst₀ b i₀ dst i = length dst₀ - i
 
-loop-holds : tie.Need-loop-init invariant-loop decreases-loop
+loop-holds : tie.Need-loop-i-init invariant-loop decreases-loop
 loop-holds c = (search rules, refl, rw sub-zero)
 
-slice-write-dst : tie.Need-slice-write-dst invariant-loop decreases-loop
+slice-write-dst : tie.Need-bounds-dst-i invariant-loop decreases-loop
 slice-write-dst c = omega arith
 
-loop-again : tie.Need-loop-preserved invariant-loop decreases-loop
+loop-again : tie.Need-loop-i-preserved invariant-loop decreases-loop
 loop-again c =
     let at = c.before in
     let n = length at.before.args.dst.now in
     let b = at.before.args.b in (
       omega arith,
       simp length-set (omega arith),
-      turn at.loop.dst at.loop.i b (replicate (n - (at.loop.i + 1)) b) (replicate n b) (omega arith)
-          (rw (left_one n at.loop.i (omega arith)) at at.loop.invariant.2),
+      turn at.loop-i.dst at.loop-i.i b (replicate (n - (at.loop-i.i + 1)) b) (replicate n b) (omega arith)
+          (rw (left_one n at.loop-i.i (omega arith)) at at.loop-i.invariant.2),
     )
 
 returns : tie.Need-returns invariant-loop decreases-loop
 returns c =
     let at = c.before in
     let n = length at.before.args.dst.now in
-    let z : n - at.loop.i ≡ 0 = omega arith in
-    finish at.loop.dst (replicate (n - at.loop.i) at.before.args.b) _ at.loop.i (omega arith) (rw z) at.loop.invariant.2
+    let z : n - at.loop-i.i ≡ 0 = omega arith in
+    finish at.loop-i.dst (replicate (n - at.loop-i.i) at.before.args.b) _ at.loop-i.i (omega arith) (rw z) at.loop-i.invariant.2
 
 pub fill_spec : {M : Type 1} → statement M
 fill_spec =

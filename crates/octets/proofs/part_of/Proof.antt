@@ -9,13 +9,13 @@ use lib.Seq.{take_all, take-nil}
 use Rattle.octets.proofs.part_of.Statement.{statement}
 use Rattle.octets.proofs.part_of.Tie as tie
 
-returns : tie.Need-returns
+returns : tie.Need-returns-then-s-at
 returns c =
     let a = c.before.before.args in
     let h : length a.s.now ≤ a.at = omega arith in
     (rw (drop_of_length-le a.s.now h) (sym (take-nil a.n)), record { from = 0; block = refl; place = search rules; within = search rules; starts = λ h. omega (arith, h) })
 
-returns-2 : tie.Need-returns-2
+returns-2 : tie.Need-returns-then-s-at-2
 returns-2 c =
     let a = c.before.before.before.args in
     let s = a.s.now in
@@ -25,7 +25,7 @@ returns-2 c =
       record { from = a.at; block = refl; place = search rules; within = omega (arith, length-take (length s - a.at) (drop a.at s), length-drop a.at s); starts = λ _. refl },
     )
 
-returns-3 : tie.Need-returns-3
+returns-3 : tie.Need-returns
 returns-3 c =
     let a = c.before.before.before.args in
     let s = a.s.now in

@@ -17,42 +17,42 @@ use Rattle.octets.proofs.place_in.Tie as tie
 abbrev Is : Bytes → Bytes → ℕ → ℕ → Bool
 Is v codes width k = same_bytes v (part codes (k * width) width)
 
-abbrev invariant-loop : tie.invariant-loop
+abbrev invariant-loop : tie.invariant-loop-k
 invariant-loop v codes width count k₀ k = (k ≤ count) × (count * width ≤ length codes) × (first_from (Is v codes width) k (count - k) ≡ place_among width count codes v)
 
-abbrev decreases-loop : tie.decreases-loop
+abbrev decreases-loop : tie.decreases-loop-k
 decreases-loop v codes width count k₀ k = count - k
 
 -- what the test of code k tells of it
-ensured : (c : tie.After-same invariant-loop decreases-loop) → Is c.before.before.before.before.before.before.args.v.now c.before.before.before.before.before.before.args.codes.now c.before.before.before.before.before.before.args.width c.before.before.before.loop.k ≡ c.same.result
+ensured : (c : tie.After-same invariant-loop decreases-loop) → Is c.before.before.before.before.before.before.args.v.now c.before.before.before.before.before.before.args.codes.now c.before.before.before.before.before.before.args.width c.before.before.before.loop-k.k ≡ c.same.result
 ensured c = ap (same_bytes _) (sym c.before.part_of.ensures.0) ∙ sym c.same.ensures
 
-loop-holds : tie.Need-loop-init invariant-loop decreases-loop
+loop-holds : tie.Need-loop-k-init invariant-loop decreases-loop
 unfolding place_among
 loop-holds c = (search rules, c.before.before.requires, rw sub-zero)
 
-mul-part-of : tie.Need-overflow-mul-part-of invariant-loop decreases-loop
+mul-part-of : tie.Need-overflow_mul-k invariant-loop decreases-loop
 mul-part-of c =
     let a = c.before.before.before.before.args in
-    let h : c.before.loop.k ≤ a.count = omega arith in
+    let h : c.before.loop-k.k ≤ a.count = omega arith in
     omega (arith, mul-le-mul_right a.width h)
 
-returns : tie.Need-returns invariant-loop decreases-loop
+returns : tie.Need-returns-then-same invariant-loop decreases-loop
 returns c =
     let l = c.before.before.before.before in
     let a = l.before.before.before.args in
-    sym (first_stop (Is a.v.now a.codes.now a.width) l.loop.k _ c.before.before.before.loop-test.true (ensured c.before ∙ c.if1.true)) ∙ l.loop.invariant.2
+    sym (first_stop (Is a.v.now a.codes.now a.width) l.loop-k.k _ c.before.before.before.loop-k-test.true (ensured c.before ∙ c.if-same.true)) ∙ l.loop-k.invariant.2
 
-loop-again : tie.Need-loop-preserved invariant-loop decreases-loop
+loop-again : tie.Need-loop-k-preserved invariant-loop decreases-loop
 loop-again c =
     let l = c.before.before.before.before in
     let a = l.before.before.before.args in
-    (omega arith, l.loop.invariant.1, sym (first_more (Is a.v.now a.codes.now a.width) l.loop.k _ c.before.before.before.loop-test.true (ensured c.before ∙ c.if1.false)) ∙ l.loop.invariant.2)
+    (omega arith, l.loop-k.invariant.1, sym (first_more (Is a.v.now a.codes.now a.width) l.loop-k.k _ c.before.before.before.loop-k-test.true (ensured c.before ∙ c.if-same.false)) ∙ l.loop-k.invariant.2)
 
-returns-2 : tie.Need-returns-2 invariant-loop decreases-loop
+returns-2 : tie.Need-returns invariant-loop decreases-loop
 returns-2 c =
     let a = c.before.before.before.before.args in
-    sym (first_end (Is a.v.now a.codes.now a.width) c.before.loop.k _ c.loop-test.false) ∙ c.before.loop.invariant.2
+    sym (first_end (Is a.v.now a.codes.now a.width) c.before.loop-k.k _ c.loop-k-test.false) ∙ c.before.loop-k.invariant.2
 
 pub place_in_spec : {M : Type 1} → statement M
 place_in_spec =

@@ -12,51 +12,51 @@ use Rattle.octets.proofs.WriteLaws.{drop_next}
 use Rattle.octets.proofs.read_le.Statement.{statement}
 use Rattle.octets.proofs.read_le.Tie as tie
 
-abbrev invariant-loop : tie.invariant-loop
+abbrev invariant-loop : tie.invariant-loop-i
 invariant-loop s v₀ i₀ v i = (i ≤ length s) × (v ≡ from_le (drop i s)) × (v < 256 ^ (length s - i))
 
-abbrev decreases-loop : tie.decreases-loop
+abbrev decreases-loop : tie.decreases-loop-i
 decreases-loop s v₀ i₀ v i = i
 
-loop-holds : tie.Need-loop-init invariant-loop decreases-loop
+loop-holds : tie.Need-loop-i-init invariant-loop decreases-loop
 unfolding from_le
 loop-holds c = (omega arith, ap from_le (sym (drop-length c.args.s.now)), one-le-pow _ 256 (omega arith))
 
-byte : (c : tie.After-shared-slice-known invariant-loop decreases-loop) → get_or c.before.before.before.args.s.now (c.before.before.loop.i - 1) 0 < 256
-byte c = omega (arith, c.shared-slice-known.given (c.before.before.loop.i - 1))
+byte : (c : tie.After-shared_slice_known-1 invariant-loop decreases-loop) → get_or c.before.before.before.args.s.now (c.before.before.loop-i.i - 1) 0 < 256
+byte c = omega (arith, c.shared_slice_known-1.given (c.before.before.loop-i.i - 1))
 
-room : (c : tie.After-shared-slice-known invariant-loop decreases-loop) → c.before.before.loop.v * 256 + get_or c.before.before.before.args.s.now (c.before.before.loop.i - 1) 0 < 2 ^ 64
+room : (c : tie.After-shared_slice_known-1 invariant-loop decreases-loop) → c.before.before.loop-i.v * 256 + get_or c.before.before.before.args.s.now (c.before.before.loop-i.i - 1) 0 < 2 ^ 64
 room c =
     let at = c.before.before in
-    byte_fits (length at.before.args.s.now - at.loop.i) _ _ (omega arith) at.loop.invariant.2 (byte c)
+    byte_fits (length at.before.args.s.now - at.loop-i.i) _ _ (omega arith) at.loop-i.invariant.2 (byte c)
 
-cast-b : tie.Need-overflow-cast-b invariant-loop decreases-loop
+cast-b : tie.Need-overflow_cast-b invariant-loop decreases-loop
 cast-b c = omega (arith, byte c)
 
-mul-v : tie.Need-overflow-mul-v invariant-loop decreases-loop
+mul-v : tie.Need-overflow_mul-v invariant-loop decreases-loop
 mul-v c = record { fits = omega (arith, room c) }
 
-add-v : tie.Need-overflow-add-v invariant-loop decreases-loop
+add-v : tie.Need-overflow_add-v invariant-loop decreases-loop
 add-v c = record { fits = omega (arith, room c) }
 
-loop-again : tie.Need-loop-preserved invariant-loop decreases-loop
+loop-again : tie.Need-loop-i-preserved invariant-loop decreases-loop
 unfolding from_le
 loop-again c =
     let at = c.before.before in
     let s = at.before.args.s.now in
-    let i = at.loop.i in
+    let i = at.loop-i.i in
     let more : i - 1 + 1 ≡ i = omega arith in
     let wider : length s - (i - 1) ≡ suc (length s - i) = omega arith in (
       omega arith,
-      rw (drop_next s (i - 1) (omega arith), more, ← at.loop.invariant.1),
-      rw wider (byte_more (length s - i) _ _ at.loop.invariant.2 (byte c)),
+      rw (drop_next s (i - 1) (omega arith), more, ← at.loop-i.invariant.1),
+      rw wider (byte_more (length s - i) _ _ at.loop-i.invariant.2 (byte c)),
     )
 
 returns : tie.Need-returns invariant-loop decreases-loop
 returns c =
     let at = c.before in
-    let z : at.loop.i ≡ 0 = omega arith in
-    (rw z at at.loop.invariant.1, rw (z, sub-zero) at at.loop.invariant.2)
+    let z : at.loop-i.i ≡ 0 = omega arith in
+    (rw z at at.loop-i.invariant.1, rw (z, sub-zero) at at.loop-i.invariant.2)
 
 pub read_le_spec : {M : Type 1} → statement M
 read_le_spec =

@@ -7,10 +7,10 @@ use borrow.Author.Rules.{rules}
 use Rattle.octets.proofs.same.Statement.{statement}
 use Rattle.octets.proofs.same.Tie as tie
 
-returns : tie.Need-returns
-returns c = sym (same_false _ _ (λ e. omega (arith, ap length e, c.if1.true)))
+returns : tie.Need-returns-then-n-b
+returns c = sym (same_false _ _ (λ e. omega (arith, ap length e, c.if-n-b.true)))
 
-same-front-requires : tie.Need-same-front-requires
+same-front-requires : tie.Need-same_front-requires
 same-front-requires c κs =
     let a = c.before.before.before.args in
     let l : length a.a.now ≡ length a.b.now = search rules in

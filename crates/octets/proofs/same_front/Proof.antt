@@ -9,31 +9,31 @@ use borrow.Author.Rules.{rules}
 use Rattle.octets.proofs.same_front.Statement.{statement}
 use Rattle.octets.proofs.same_front.Tie as tie
 
-abbrev invariant-loop : tie.invariant-loop
+abbrev invariant-loop : tie.invariant-loop-i
 invariant-loop a b n i₀ i = (i ≤ length a) × (length a ≡ length b) × (drop i a ≡ drop i b)
 
-abbrev decreases-loop : tie.decreases-loop
+abbrev decreases-loop : tie.decreases-loop-i
 decreases-loop a b n i₀ i = i
 
-loop-holds : tie.Need-loop-init invariant-loop decreases-loop
+loop-holds : tie.Need-loop-i-init invariant-loop decreases-loop
 loop-holds c = (search rules, search rules, search rules)
 
-returns : tie.Need-returns invariant-loop decreases-loop
+returns : tie.Need-returns-then-a-i invariant-loop decreases-loop
 returns c =
-    let l = c.before.before.before.before.loop in
-    sym (same_false _ _ (λ e. omega (arith, ap (λ xs. get_or xs (l.i - 1) 0) e, c.if1.true)))
+    let l = c.before.before.before.before.loop-i in
+    sym (same_false _ _ (λ e. omega (arith, ap (λ xs. get_or xs (l.i - 1) 0) e, c.if-a-i.true)))
 
-loop-again : tie.Need-loop-preserved invariant-loop decreases-loop
+loop-again : tie.Need-loop-i-preserved invariant-loop decreases-loop
 loop-again c =
-    let l = c.before.before.before.before.loop in
+    let l = c.before.before.before.before.loop-i in
     let a = c.before.before.before.before.before.args.a.now in
     let b = c.before.before.before.before.before.args.b.now in
     let up : l.i - 1 + 1 ≡ l.i = omega arith in
-    (omega arith, l.invariant.1, rw (drop_next a (l.i - 1) (omega arith), drop_next b (l.i - 1) (omega arith), up, c.if1.false, l.invariant.2))
+    (omega arith, l.invariant.1, rw (drop_next a (l.i - 1) (omega arith), drop_next b (l.i - 1) (omega arith), up, c.if-a-i.false, l.invariant.2))
 
-returns-2 : tie.Need-returns-2 invariant-loop decreases-loop
+returns-2 : tie.Need-returns invariant-loop decreases-loop
 returns-2 c =
-    let l = c.before.loop in
+    let l = c.before.loop-i in
     let a = c.before.before.args.a.now in
     let b = c.before.before.args.b.now in
     let z : l.i ≡ 0 = omega arith in

@@ -13,10 +13,10 @@ use borrow.Author.Rules.{rules}
 use Rattle.octets.proofs.same_words.Statement.{statement}
 use Rattle.octets.proofs.same_words.Tie as tie
 
-abbrev invariant-loop : tie.invariant-loop
+abbrev invariant-loop : tie.invariant-loop-i
 invariant-loop a b i₀ i = (i ≤ length a) × (length a ≡ length b) × (drop i a ≡ drop i b)
 
-abbrev decreases-loop : tie.decreases-loop
+abbrev decreases-loop : tie.decreases-loop-i
 decreases-loop a b i₀ i = i
 
 -- the same word before bytes that are the same
@@ -27,26 +27,26 @@ word_more a b at n i s l f g e r =
     let rest : drop n (drop at a) ≡ drop n (drop at b) = drop-drop n at a ∙ ap (λ (k : ℕ). drop k a) s ∙ r ∙ sym (drop-drop n at b ∙ ap (λ (k : ℕ). drop k b) s) in
     sym (take-append-drop n (drop at a)) ∙ ap₂ ◌++◌ word rest ∙ take-append-drop n (drop at b)
 
-loop-holds : tie.Need-loop-init invariant-loop decreases-loop
+loop-holds : tie.Need-loop-i-init invariant-loop decreases-loop
 loop-holds c =
     let l : length c.before.before.args.a.now ≡ length c.before.before.args.b.now = search rules in
     (search rules, l, ends_same c.before.before.args.a.now c.before.before.args.b.now l)
 
-returns : tie.Need-returns invariant-loop decreases-loop
+returns : tie.Need-returns-then-read_le invariant-loop decreases-loop
 returns c =
-    let l = c.before.before.before.before.before.before.loop in
+    let l = c.before.before.before.before.before.before.loop-i in
     let at : ℕ = l.i - 8 in
-    sym (same_false _ _ (λ e. c.if1.true (c.before.before.before.read-le.ensures.0 ∙ ap (λ (xs : Bytes). from_le (take (l.i - at) (drop at xs))) e ∙ sym c.before.read-le2.ensures.0)))
+    sym (same_false _ _ (λ e. c.if-read_le.true (c.before.before.before.read_le.ensures.0 ∙ ap (λ (xs : Bytes). from_le (take (l.i - at) (drop at xs))) e ∙ sym c.before.read_le-in-loop-i.ensures.0)))
 
-loop-again : tie.Need-loop-preserved invariant-loop decreases-loop
+loop-again : tie.Need-loop-i-preserved invariant-loop decreases-loop
 loop-again c =
-    let l = c.before.before.before.before.before.before.loop in
+    let l = c.before.before.before.before.before.before.loop-i in
     let known = c.before.before.before.before.before.before.before in
     let a = known.before.before.args.a.now in
     let b = known.before.before.args.b.now in
     let at : ℕ = l.i - 8 in
-    let words : from_le (take (l.i - at) (drop at a)) ≡ from_le (take (l.i - at) (drop at b)) = sym c.before.before.before.read-le.ensures.0 ∙ c.if1.false ∙ c.before.read-le2.ensures.0 in
-    (omega arith, l.invariant.1, word_more a b at (l.i - at) l.i (omega arith) l.invariant.1 (λ k. (known.before.shared-slice-known.given k).fits) (λ k. (known.shared-slice-known2.given k).fits) words l.invariant.2)
+    let words : from_le (take (l.i - at) (drop at a)) ≡ from_le (take (l.i - at) (drop at b)) = sym c.before.before.before.read_le.ensures.0 ∙ c.if-read_le.false ∙ c.before.read_le-in-loop-i.ensures.0 in
+    (omega arith, l.invariant.1, word_more a b at (l.i - at) l.i (omega arith) l.invariant.1 (λ k. (known.before.shared_slice_known-1.given k).fits) (λ k. (known.shared_slice_known-2-1.given k).fits) words l.invariant.2)
 
 pub same_words_spec : {M : Type 1} → statement M
 same_words_spec =

@@ -11,19 +11,19 @@ use Rattle.octets.proofs.WriteLaws.{turn, finish, left_one}
 use Rattle.octets.proofs.write_le.Statement.{statement}
 use Rattle.octets.proofs.write_le.Tie as tie
 
-abbrev invariant-loop : tie.invariant-loop
+abbrev invariant-loop : tie.invariant-loop-i
 invariant-loop dst₀ v rest₀ i₀ dst rest i = (i ≤ length dst₀) × (length dst ≡ length dst₀) × (take i dst ++ to_le (length dst₀ - i) rest ≡ to_le (length dst₀) v)
 
-abbrev decreases-loop : tie.decreases-loop
+abbrev decreases-loop : tie.decreases-loop-i
 decreases-loop dst₀ v rest₀ i₀ dst rest i = length dst₀ - i
 
-loop-holds : tie.Need-loop-init invariant-loop decreases-loop
+loop-holds : tie.Need-loop-i-init invariant-loop decreases-loop
 loop-holds c = (search rules, refl, rw sub-zero)
 
-slice-write-dst : tie.Need-slice-write-dst invariant-loop decreases-loop
+slice-write-dst : tie.Need-bounds-dst-i invariant-loop decreases-loop
 slice-write-dst c = omega arith
 
-loop-again : tie.Need-loop-preserved invariant-loop decreases-loop
+loop-again : tie.Need-loop-i-preserved invariant-loop decreases-loop
 unfolding to_le
 loop-again c =
     let at = c.before in
@@ -31,8 +31,8 @@ loop-again c =
     let v = at.before.args.v in (
       omega arith,
       simp length-set (omega arith),
-      turn at.loop.dst at.loop.i (at.loop.rest % 256) (to_le (n - (at.loop.i + 1)) (at.loop.rest / 256)) (to_le n v) (omega arith)
-          (rw (left_one n at.loop.i (omega arith)) at at.loop.invariant.2),
+      turn at.loop-i.dst at.loop-i.i (at.loop-i.rest % 256) (to_le (n - (at.loop-i.i + 1)) (at.loop-i.rest / 256)) (to_le n v) (omega arith)
+          (rw (left_one n at.loop-i.i (omega arith)) at at.loop-i.invariant.2),
     )
 
 returns : tie.Need-returns invariant-loop decreases-loop
@@ -40,8 +40,8 @@ unfolding to_le
 returns c =
     let at = c.before in
     let n = length at.before.args.dst.now in
-    let z : n - at.loop.i ≡ 0 = omega arith in
-    finish at.loop.dst (to_le (n - at.loop.i) at.loop.rest) _ at.loop.i (omega arith) (rw z) at.loop.invariant.2
+    let z : n - at.loop-i.i ≡ 0 = omega arith in
+    finish at.loop-i.dst (to_le (n - at.loop-i.i) at.loop-i.rest) _ at.loop-i.i (omega arith) (rw z) at.loop-i.invariant.2
 
 pub write_le_spec : {M : Type 1} → statement M
 write_le_spec =
