@@ -10,23 +10,23 @@ use Rattle.octets.proofs.append.Statement.{statement}
 use Rattle.octets.proofs.append.Tie as tie
 
 -- what fits of s, in number
-size : (c : tie.After-part_of-fits) → length c.part_of-fits.result.now ≡ min (length c.before.before.before.before.args.dst-1.now - c.before.before.before.before.args.at) (length c.before.before.before.before.args.s.now)
-size c = ap length c.part_of-fits.ensures.0 ∙ length-take _ c.before.before.before.before.args.s.now
+size : (c : tie.After-part_of-fits) → length c.part_of-fits.result.now ≡ min (length c.args.dst.now - c.args.at) (length c.args.s.now)
+size c = ap length c.part_of-fits.ensures.0 ∙ length-take _ c.args.s.now
 
 returns : tie.Need-returns-then-n-at
 returns c =
-    let a = c.before.before.before.args in
-    let none : length a.dst-1.now - a.at ≡ 0 = omega arith in
-    (rw none (sym (splice_none a.dst-1.now a.at)), omega arith)
+    let a = c.args in
+    let none : length a.dst.now - a.at ≡ 0 = omega arith in
+    (rw none (sym (splice_none a.dst.now a.at)), omega arith)
 
 copy-at-requires : tie.Need-copy_at-requires
 copy-at-requires c κs = omega (arith, size c.before)
 
 returns-2 : tie.Need-returns
 returns-2 c =
-    let b = c.before.before.before.before in
-    let a = b.before.before.before.before.args in
-    (c.before.before.copy_at.ensures ∙ ap (splice a.dst-1.now a.at) b.part_of-fits.ensures.0, omega (arith, size b))
+    let b = c in
+    let a = b.args in
+    (c.copy_at.ensures ∙ ap (splice a.dst.now a.at) b.part_of-fits.ensures.0, omega (arith, size c.before.before.before.before))
 
 pub append_spec : {M : Type 1} → statement M
 append_spec =

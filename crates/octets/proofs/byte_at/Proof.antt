@@ -6,7 +6,7 @@ use Rattle.octets.proofs.byte_at.Statement.{statement}
 use Rattle.octets.proofs.byte_at.Tie as tie
 
 returns-2 : tie.Need-returns
-returns-2 c = sym (get_or-eq_default c.before.args.s.now 0 c.if-i-s.false)
+returns-2 c = sym (get_or-eq_default c.args.s.now 0 c.if-i-s.false)
 
 pub byte_at_spec : {M : Type 1} → statement M
 byte_at_spec = tie.close (tie.spec (λ c. search rules) (λ c. search rules) returns-2)

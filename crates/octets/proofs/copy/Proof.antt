@@ -23,8 +23,8 @@ slice-write-dst c = omega arith
 
 loop-again : tie.Need-loop-i-preserved invariant-loop decreases-loop
 loop-again c =
-    let at = c.before.before in
-    let src = at.before.args.src.now in (
+    let at = c in
+    let src = at.args.src.now in (
       search rules,
       simp length-set (omega arith),
       turn at.loop-i.dst at.loop-i.i (get_or src at.loop-i.i 0) (drop (at.loop-i.i + 1) src) src (omega arith)
@@ -33,8 +33,8 @@ loop-again c =
 
 returns : tie.Need-returns invariant-loop decreases-loop
 returns c =
-    let at = c.before in
-    finish at.loop-i.dst (drop at.loop-i.i at.before.args.src.now) _ at.loop-i.i (omega arith) (drop_of_length-le at.before.args.src.now {i = at.loop-i.i} (omega arith)) at.loop-i.invariant.2
+    let at = c in
+    finish at.loop-i.dst (drop at.loop-i.i at.args.src.now) _ at.loop-i.i (omega arith) (drop_of_length-le at.args.src.now {i = at.loop-i.i} (omega arith)) at.loop-i.invariant.2
 
 pub copy_spec : {M : Type 1} → statement M
 copy_spec =

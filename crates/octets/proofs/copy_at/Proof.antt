@@ -6,7 +6,7 @@ use Rattle.octets.proofs.copy_at.Statement.{statement}
 use Rattle.octets.proofs.copy_at.Tie as tie
 
 returns : tie.Need-returns
-returns c = lent_back _ _ _ _ _ c.before.before.copy.ensures refl
+returns c = lent_back _ _ _ _ _ c.copy.ensures refl
 
 pub copy_at_spec : {M : Type 1} → statement M
 copy_at_spec =

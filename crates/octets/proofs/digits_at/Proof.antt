@@ -7,7 +7,7 @@ use Rattle.octets.proofs.digits_at.Statement.{statement}
 use Rattle.octets.proofs.digits_at.Tie as tie
 
 returns : tie.Need-returns
-returns c = lent_filled _ _ _ _ (λ k. digits k c.before.before.before.before.before.args.v) (λ k. length_digits k _) c.before.before.before.before.before.requires c.before.before.write_digits.ensures
+returns c = lent_filled _ _ _ _ (λ k. digits k c.args.v) (λ k. length_digits k _) c.requires c.write_digits.ensures
 
 pub digits_at_spec : {M : Type 1} → statement M
 digits_at_spec = tie.close (tie.spec (λ c. search rules) (λ c. search rules) (λ c. search rules) (λ c. search rules) (λ c κs. search rules) (λ c. search rules) returns)

@@ -24,9 +24,9 @@ slice-write-dst c = omega arith
 
 loop-again : tie.Need-loop-i-preserved invariant-loop decreases-loop
 loop-again c =
-    let at = c.before in
-    let n = length at.before.args.dst.now in
-    let b = at.before.args.b in (
+    let at = c in
+    let n = length at.args.dst.now in
+    let b = at.args.b in (
       omega arith,
       simp length-set (omega arith),
       turn at.loop-i.dst at.loop-i.i b (replicate (n - (at.loop-i.i + 1)) b) (replicate n b) (omega arith)
@@ -35,10 +35,10 @@ loop-again c =
 
 returns : tie.Need-returns invariant-loop decreases-loop
 returns c =
-    let at = c.before in
-    let n = length at.before.args.dst.now in
+    let at = c in
+    let n = length at.args.dst.now in
     let z : n - at.loop-i.i ≡ 0 = omega arith in
-    finish at.loop-i.dst (replicate (n - at.loop-i.i) at.before.args.b) _ at.loop-i.i (omega arith) (rw z) at.loop-i.invariant.2
+    finish at.loop-i.dst (replicate (n - at.loop-i.i) at.args.b) _ at.loop-i.i (omega arith) (rw z) at.loop-i.invariant.2
 
 pub fill_spec : {M : Type 1} → statement M
 fill_spec =

@@ -11,13 +11,13 @@ use Rattle.octets.proofs.part_of.Tie as tie
 
 returns : tie.Need-returns-then-s-at
 returns c =
-    let a = c.before.before.args in
+    let a = c.args in
     let h : length a.s.now ≤ a.at = omega arith in
     (rw (drop_of_length-le a.s.now h) (sym (take-nil a.n)), record { from = 0; block = refl; place = search rules; within = search rules; starts = λ h. omega (arith, h) })
 
 returns-2 : tie.Need-returns-then-s-at-2
 returns-2 c =
-    let a = c.before.before.before.args in
+    let a = c.args in
     let s = a.s.now in
     let l : length (drop a.at s) ≤ length s - a.at = omega (arith, length-drop a.at s) in
     let h : length (drop a.at s) ≤ a.n = omega (arith, length-drop a.at s) in (
@@ -27,7 +27,7 @@ returns-2 c =
 
 returns-3 : tie.Need-returns
 returns-3 c =
-    let a = c.before.before.before.args in
+    let a = c.args in
     let s = a.s.now in
     (rw add-sub_cancel_left, record { from = a.at; block = refl; place = search rules; within = omega (arith, length-take (a.at + a.n - a.at) (drop a.at s), length-drop a.at s); starts = λ _. refl })
 

@@ -24,35 +24,35 @@ abbrev decreases-loop : tie.decreases-loop-k
 decreases-loop v codes width count k₀ k = count - k
 
 -- what the test of code k tells of it
-ensured : (c : tie.After-same invariant-loop decreases-loop) → Is c.before.before.before.before.before.before.args.v.now c.before.before.before.before.before.before.args.codes.now c.before.before.before.before.before.before.args.width c.before.before.before.loop-k.k ≡ c.same.result
-ensured c = ap (same_bytes _) (sym c.before.part_of.ensures.0) ∙ sym c.same.ensures
+ensured : (c : tie.After-same invariant-loop decreases-loop) → Is c.args.v.now c.args.codes.now c.args.width c.loop-k.k ≡ c.same.result
+ensured c = ap (same_bytes _) (sym c.part_of.ensures.0) ∙ sym c.same.ensures
 
 loop-holds : tie.Need-loop-k-init invariant-loop decreases-loop
 unfolding place_among
-loop-holds c = (search rules, c.before.before.requires, rw sub-zero)
+loop-holds c = (search rules, c.requires, rw sub-zero)
 
 mul-part-of : tie.Need-overflow_mul-k invariant-loop decreases-loop
 mul-part-of c =
-    let a = c.before.before.before.before.args in
-    let h : c.before.loop-k.k ≤ a.count = omega arith in
+    let a = c.args in
+    let h : c.loop-k.k ≤ a.count = omega arith in
     omega (arith, mul-le-mul_right a.width h)
 
 returns : tie.Need-returns-then-same invariant-loop decreases-loop
 returns c =
-    let l = c.before.before.before.before in
-    let a = l.before.before.before.args in
-    sym (first_stop (Is a.v.now a.codes.now a.width) l.loop-k.k _ c.before.before.before.loop-k-test.true (ensured c.before ∙ c.if-same.true)) ∙ l.loop-k.invariant.2
+    let l = c in
+    let a = l.args in
+    sym (first_stop (Is a.v.now a.codes.now a.width) l.loop-k.k _ c.loop-k-test.true (ensured c.before ∙ c.if-same.true)) ∙ l.loop-k.invariant.2
 
 loop-again : tie.Need-loop-k-preserved invariant-loop decreases-loop
 loop-again c =
-    let l = c.before.before.before.before in
-    let a = l.before.before.before.args in
-    (omega arith, l.loop-k.invariant.1, sym (first_more (Is a.v.now a.codes.now a.width) l.loop-k.k _ c.before.before.before.loop-k-test.true (ensured c.before ∙ c.if-same.false)) ∙ l.loop-k.invariant.2)
+    let l = c in
+    let a = l.args in
+    (omega arith, l.loop-k.invariant.1, sym (first_more (Is a.v.now a.codes.now a.width) l.loop-k.k _ c.loop-k-test.true (ensured c.before ∙ c.if-same.false)) ∙ l.loop-k.invariant.2)
 
 returns-2 : tie.Need-returns invariant-loop decreases-loop
 returns-2 c =
-    let a = c.before.before.before.before.args in
-    sym (first_end (Is a.v.now a.codes.now a.width) c.before.loop-k.k _ c.loop-k-test.false) ∙ c.before.loop-k.invariant.2
+    let a = c.args in
+    sym (first_end (Is a.v.now a.codes.now a.width) c.loop-k.k _ c.loop-k-test.false) ∙ c.loop-k.invariant.2
 
 pub place_in_spec : {M : Type 1} → statement M
 place_in_spec =

@@ -13,13 +13,13 @@ use Rattle.octets.proofs.read_at.Tie as tie
 returns : tie.Need-returns-then-s-at
 unfolding from_le
 returns c =
-    let a = c.before.before.args in
+    let a = c.args in
     let h : length a.s.now ≤ a.at = omega arith in
     (rw (drop_of_length-le a.s.now h, take-nil a.n), one-le-pow a.n 256 (omega arith))
 
 returns-2 : tie.Need-returns-then-s-at-2
 returns-2 c =
-    let a = c.before.before.before.before.before.args in
+    let a = c.args in
     let s = a.s.now in
     let whole : take (length s - a.at) (drop a.at s) ≡ drop a.at s = take_all (length s - a.at) (drop a.at s) (omega (arith, length-drop a.at s)) in
     let short : length (take (length s - a.at) (drop a.at s)) ≤ a.n = omega (arith, length-take (length s - a.at) (drop a.at s)) in (
@@ -29,7 +29,7 @@ returns-2 c =
 
 returns-3 : tie.Need-returns
 returns-3 c =
-    let a = c.before.before.before.before.before.args in
+    let a = c.args in
     let s = a.s.now in
     let n : a.at + a.n - a.at ≡ a.n = add-sub_cancel_left _ _ in
     let short : length (take (a.at + a.n - a.at) (drop a.at s)) ≤ a.n = omega (arith, length-take (a.at + a.n - a.at) (drop a.at s)) in (

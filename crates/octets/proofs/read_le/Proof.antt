@@ -22,13 +22,13 @@ loop-holds : tie.Need-loop-i-init invariant-loop decreases-loop
 unfolding from_le
 loop-holds c = (omega arith, ap from_le (sym (drop-length c.args.s.now)), one-le-pow _ 256 (omega arith))
 
-byte : (c : tie.After-shared_slice_known-1 invariant-loop decreases-loop) → get_or c.before.before.before.args.s.now (c.before.before.loop-i.i - 1) 0 < 256
-byte c = omega (arith, c.shared_slice_known-1.given (c.before.before.loop-i.i - 1))
+byte : (c : tie.After-shared_slice_known-1 invariant-loop decreases-loop) → get_or c.args.s.now (c.loop-i.i - 1) 0 < 256
+byte c = omega (arith, c.shared_slice_known-1.given (c.loop-i.i - 1))
 
-room : (c : tie.After-shared_slice_known-1 invariant-loop decreases-loop) → c.before.before.loop-i.v * 256 + get_or c.before.before.before.args.s.now (c.before.before.loop-i.i - 1) 0 < 2 ^ 64
+room : (c : tie.After-shared_slice_known-1 invariant-loop decreases-loop) → c.loop-i.v * 256 + get_or c.args.s.now (c.loop-i.i - 1) 0 < 2 ^ 64
 room c =
-    let at = c.before.before in
-    byte_fits (length at.before.args.s.now - at.loop-i.i) _ _ (omega arith) at.loop-i.invariant.2 (byte c)
+    let at = c in
+    byte_fits (length at.args.s.now - at.loop-i.i) _ _ (omega arith) at.loop-i.invariant.2 (byte c)
 
 cast-b : tie.Need-overflow_cast-b invariant-loop decreases-loop
 cast-b c = omega (arith, byte c)
@@ -42,8 +42,8 @@ add-v c = record { fits = omega (arith, room c) }
 loop-again : tie.Need-loop-i-preserved invariant-loop decreases-loop
 unfolding from_le
 loop-again c =
-    let at = c.before.before in
-    let s = at.before.args.s.now in
+    let at = c in
+    let s = at.args.s.now in
     let i = at.loop-i.i in
     let more : i - 1 + 1 ≡ i = omega arith in
     let wider : length s - (i - 1) ≡ suc (length s - i) = omega arith in (
@@ -54,7 +54,7 @@ loop-again c =
 
 returns : tie.Need-returns invariant-loop decreases-loop
 returns c =
-    let at = c.before in
+    let at = c in
     let z : at.loop-i.i ≡ 0 = omega arith in
     (rw z at at.loop-i.invariant.1, rw (z, sub-zero) at at.loop-i.invariant.2)
 

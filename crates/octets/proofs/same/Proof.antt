@@ -12,7 +12,7 @@ returns c = sym (same_false _ _ (λ e. omega (arith, ap length e, c.if-n-b.true)
 
 same-front-requires : tie.Need-same_front-requires
 same-front-requires c κs =
-    let a = c.before.before.before.args in
+    let a = c.args in
     let l : length a.a.now ≡ length a.b.now = search rules in
     (l, search rules, ends_same a.a.now a.b.now l)
 

@@ -20,22 +20,22 @@ loop-holds c = (search rules, search rules, search rules)
 
 returns : tie.Need-returns-then-a-i invariant-loop decreases-loop
 returns c =
-    let l = c.before.before.before.before.loop-i in
+    let l = c.loop-i in
     sym (same_false _ _ (λ e. omega (arith, ap (λ xs. get_or xs (l.i - 1) 0) e, c.if-a-i.true)))
 
 loop-again : tie.Need-loop-i-preserved invariant-loop decreases-loop
 loop-again c =
-    let l = c.before.before.before.before.loop-i in
-    let a = c.before.before.before.before.before.args.a.now in
-    let b = c.before.before.before.before.before.args.b.now in
+    let l = c.loop-i in
+    let a = c.args.a.now in
+    let b = c.args.b.now in
     let up : l.i - 1 + 1 ≡ l.i = omega arith in
     (omega arith, l.invariant.1, rw (drop_next a (l.i - 1) (omega arith), drop_next b (l.i - 1) (omega arith), up, c.if-a-i.false, l.invariant.2))
 
 returns-2 : tie.Need-returns invariant-loop decreases-loop
 returns-2 c =
-    let l = c.before.loop-i in
-    let a = c.before.before.args.a.now in
-    let b = c.before.before.args.b.now in
+    let l = c.loop-i in
+    let a = c.args.a.now in
+    let b = c.args.b.now in
     let z : l.i ≡ 0 = omega arith in
     let e : a ≡ b = rw z at l.invariant.2 in
     rw e (sym (same_refl b))

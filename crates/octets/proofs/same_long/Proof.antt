@@ -16,29 +16,29 @@ returns c = sym (same_false _ _ (λ e. omega (arith, ap length e, c.if-n-b.true)
 
 same-front-requires : tie.Need-same_front-requires
 same-front-requires c κs =
-    let a = c.before.before.before.before.args in
+    let a = c.args in
     let l : length a.a.now ≡ length a.b.now = search rules in
     (l, search rules, ends_same a.a.now a.b.now l)
 
 returns-3 : tie.Need-returns-then-read_le
 returns-3 c =
-    let n : ℕ = length c.before.before.before.before.before.before.before.before.before.args.a.now in
-    sym (same_false _ _ (λ e. c.if-read_le.true (c.before.before.before.read_le.ensures.0 ∙ ap (λ (xs : Bytes). from_le (take (n - (n - 8)) (drop (n - 8) xs))) e ∙ sym c.before.read_le-2.ensures.0)))
+    let n : ℕ = length c.args.a.now in
+    sym (same_false _ _ (λ e. c.if-read_le.true (c.read_le.ensures.0 ∙ ap (λ (xs : Bytes). from_le (take (n - (n - 8)) (drop (n - 8) xs))) e ∙ sym c.read_le-2.ensures.0)))
 
 slice-aggregate-read-le : tie.Need-slice_bounds-read_le-end-3
-slice-aggregate-read-le c = sym (length-take-le 8 c.before.before.before.before.before.before.before.before.before.before.args.a.now (omega arith))
+slice-aggregate-read-le c = sym (length-take-le 8 c.args.a.now (omega arith))
 
 read-le-requires-3 : tie.Need-read_le-requires-3
-read-le-requires-3 c κs = omega (arith, length-take 8 c.before.before.before.before.before.before.before.before.before.before.args.a.now)
+read-le-requires-3 c κs = omega (arith, length-take 8 c.args.a.now)
 
 slice-aggregate-read-le-2 : tie.Need-slice_bounds-read_le-end-4
-slice-aggregate-read-le-2 c = sym (length-take-le 8 c.before.before.before.before.before.before.before.before.before.before.before.before.args.b.now (omega arith))
+slice-aggregate-read-le-2 c = sym (length-take-le 8 c.args.b.now (omega arith))
 
 read-le-requires-4 : tie.Need-read_le-requires-4
-read-le-requires-4 c κs = omega (arith, length-take 8 c.before.before.before.before.before.before.before.before.before.before.before.before.args.b.now)
+read-le-requires-4 c κs = omega (arith, length-take 8 c.args.b.now)
 
 returns-4 : tie.Need-returns-then-read_le-2
-returns-4 c = sym (same_false _ _ (λ e. c.if-read_le-2.true (c.before.before.before.read_le-3.ensures.0 ∙ ap (λ (xs : Bytes). from_le (take 8 xs)) e ∙ sym c.before.read_le-4.ensures.0)))
+returns-4 c = sym (same_false _ _ (λ e. c.if-read_le-2.true (c.read_le-3.ensures.0 ∙ ap (λ (xs : Bytes). from_le (take 8 xs)) e ∙ sym c.read_le-4.ensures.0)))
 
 pub same_long_spec : {M : Type 1} → statement M
 same_long_spec =

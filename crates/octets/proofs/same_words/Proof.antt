@@ -29,24 +29,24 @@ word_more a b at n i s l f g e r =
 
 loop-holds : tie.Need-loop-i-init invariant-loop decreases-loop
 loop-holds c =
-    let l : length c.before.before.args.a.now ≡ length c.before.before.args.b.now = search rules in
-    (search rules, l, ends_same c.before.before.args.a.now c.before.before.args.b.now l)
+    let l : length c.args.a.now ≡ length c.args.b.now = search rules in
+    (search rules, l, ends_same c.args.a.now c.args.b.now l)
 
 returns : tie.Need-returns-then-read_le invariant-loop decreases-loop
 returns c =
-    let l = c.before.before.before.before.before.before.loop-i in
+    let l = c.loop-i in
     let at : ℕ = l.i - 8 in
-    sym (same_false _ _ (λ e. c.if-read_le.true (c.before.before.before.read_le.ensures.0 ∙ ap (λ (xs : Bytes). from_le (take (l.i - at) (drop at xs))) e ∙ sym c.before.read_le-in-loop-i.ensures.0)))
+    sym (same_false _ _ (λ e. c.if-read_le.true (c.read_le.ensures.0 ∙ ap (λ (xs : Bytes). from_le (take (l.i - at) (drop at xs))) e ∙ sym c.read_le-in-loop-i.ensures.0)))
 
 loop-again : tie.Need-loop-i-preserved invariant-loop decreases-loop
 loop-again c =
-    let l = c.before.before.before.before.before.before.loop-i in
-    let known = c.before.before.before.before.before.before.before in
-    let a = known.before.before.args.a.now in
-    let b = known.before.before.args.b.now in
+    let l = c.loop-i in
+    let known = c in
+    let a = known.args.a.now in
+    let b = known.args.b.now in
     let at : ℕ = l.i - 8 in
-    let words : from_le (take (l.i - at) (drop at a)) ≡ from_le (take (l.i - at) (drop at b)) = sym c.before.before.before.read_le.ensures.0 ∙ c.if-read_le.false ∙ c.before.read_le-in-loop-i.ensures.0 in
-    (omega arith, l.invariant.1, word_more a b at (l.i - at) l.i (omega arith) l.invariant.1 (λ k. (known.before.shared_slice_known-1.given k).fits) (λ k. (known.shared_slice_known-2-1.given k).fits) words l.invariant.2)
+    let words : from_le (take (l.i - at) (drop at a)) ≡ from_le (take (l.i - at) (drop at b)) = sym c.read_le.ensures.0 ∙ c.if-read_le.false ∙ c.read_le-in-loop-i.ensures.0 in
+    (omega arith, l.invariant.1, word_more a b at (l.i - at) l.i (omega arith) l.invariant.1 (λ k. (known.shared_slice_known-1.given k).fits) (λ k. (known.shared_slice_known-2-1.given k).fits) words l.invariant.2)
 
 pub same_words_spec : {M : Type 1} → statement M
 same_words_spec =

@@ -25,19 +25,19 @@ loop-holds c = (search rules, refl, rw (drop-length c.args.dst.now) (append-nil 
 
 loop-again : tie.Need-loop-i-preserved invariant-loop decreases-loop
 loop-again c =
-    let l = c.before.loop-i in (
+    let l = c.loop-i in (
       simp length-set (omega arith),
       simp length-set l.invariant.1,
       sym (digit_more l.i l.rest l.dst c.loop-i-test.true l.invariant.0) ∙ l.invariant.2,
     )
 
 same_length : tie.Need-shape_of-dst invariant-loop decreases-loop
-same_length c = c.before.loop-i.invariant.1
+same_length c = c.loop-i.invariant.1
 
 returns : tie.Need-returns invariant-loop decreases-loop
 unfolding digits
 returns c =
-    let l = c.before.loop-i in
+    let l = c.loop-i in
     let z : l.i ≡ 0 = omega arith in
     rw z at l.invariant.2
 

@@ -7,9 +7,9 @@ use Rattle.octets.proofs.write_field.Tie as tie
 
 returns : tie.Need-returns
 returns c =
-    let f = c.before.before.before.before.before.before in
-    let a = f.before.before.before.before.args in
-    (holds_more a.src.now (holds_none (length a.dst-1.now) _ f.fill.ensures) c.before.before.append.ensures).bytes
+    let f = c in
+    let a = f.args in
+    (holds_more a.src.now (holds_none (length a.dst.now) _ f.fill.ensures) c.append.ensures).bytes
 
 pub write_field_spec : {M : Type 1} → statement M
 write_field_spec = tie.close (tie.spec (λ c κs. search rules) (λ c κs. search rules) (λ c. search rules) returns)

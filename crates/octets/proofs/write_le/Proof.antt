@@ -26,9 +26,9 @@ slice-write-dst c = omega arith
 loop-again : tie.Need-loop-i-preserved invariant-loop decreases-loop
 unfolding to_le
 loop-again c =
-    let at = c.before in
-    let n = length at.before.args.dst.now in
-    let v = at.before.args.v in (
+    let at = c in
+    let n = length at.args.dst.now in
+    let v = at.args.v in (
       omega arith,
       simp length-set (omega arith),
       turn at.loop-i.dst at.loop-i.i (at.loop-i.rest % 256) (to_le (n - (at.loop-i.i + 1)) (at.loop-i.rest / 256)) (to_le n v) (omega arith)
@@ -38,8 +38,8 @@ loop-again c =
 returns : tie.Need-returns invariant-loop decreases-loop
 unfolding to_le
 returns c =
-    let at = c.before in
-    let n = length at.before.args.dst.now in
+    let at = c in
+    let n = length at.args.dst.now in
     let z : n - at.loop-i.i ≡ 0 = omega arith in
     finish at.loop-i.dst (to_le (n - at.loop-i.i) at.loop-i.rest) _ at.loop-i.i (omega arith) (rw z) at.loop-i.invariant.2
 
