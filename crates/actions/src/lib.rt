@@ -13,7 +13,7 @@ pub use statuses::{CLOSED, ERRORED, LIVE, NO_STEP, PORTED, UNKNOWN, status_after
 pub use table::{ACTION_TYPE, read_action};
 use table::{Kind, columns_of};
 
-#[derive(Drop)]
+#[derive(Clone, Copy)]
 pub enum Action {
     Newt,
     Modi,
@@ -25,7 +25,7 @@ pub enum Action {
 }
 
 // What a check answers: the code of the element at fault, or the message's action, which the next check uses.
-#[derive(Drop)]
+#[derive(Clone, Copy)]
 pub enum Checked {
     Fault(u8),
     Value(Action),

@@ -8,7 +8,7 @@ use Kind::*;
 use values::{EVENT_SIZE, is_code};
 
 // The kinds of messages: full ones and short ones take and need other elements.
-#[derive(Drop)]
+#[derive(Clone, Copy)]
 pub enum Kind {
     Full,
     Short,
@@ -17,7 +17,7 @@ pub enum Kind {
 // What the table says of an action beside its text: its row in the matrix; the kind of its messages; whether it is a new swap's, writes
 // a line, and only where it changes the stored terms, repeats the stored execution time; the status after it from unknown, live, closed,
 // errored, ported, 0 where no step exists.
-#[derive(Drop)]
+#[derive(Clone, Copy)]
 pub struct Columns {
     pub place: usize,
     pub kind: Kind,

@@ -11,7 +11,7 @@ pub const LENGTH_SIZE: usize = 2;
 pub const LONGEST_FRAME: usize = LENGTH_SIZE + 65_535;
 
 // What stands at the front of the input: a message or one that is too long, with its length, or no whole one.
-#[derive(Drop)]
+#[derive(Clone, Copy)]
 pub enum Frame {
     Message(usize),
     Overlong(usize),

@@ -14,7 +14,7 @@ use rules::LAYOUT_WRONG;
 
 // How far the day has come: bytes of the input that are passed, bytes of the report that wait to be written, messages
 // judged, lines published, and whether the report can still be written.
-#[derive(Drop)]
+#[derive(Clone, Copy)]
 pub struct Progress {
     pub at: usize,
     pub used: usize,

@@ -13,7 +13,7 @@ use message::element;
 use octets::same;
 
 // What the conditions ask of a price or a spread: a package has it; and its notation is 1.
-#[derive(Drop)]
+#[derive(Clone, Copy)]
 pub struct Quote {
     pub there: bool,
     pub monetary: bool,
@@ -25,7 +25,7 @@ const NO_QUOTE: Quote = Quote {
 };
 
 // What the conditions ask: Cleared is N; 15 is true; price and spread.
-#[derive(Drop)]
+#[derive(Clone, Copy)]
 pub struct Facts {
     pub uncleared: bool,
     pub packaged: bool,

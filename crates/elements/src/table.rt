@@ -7,7 +7,7 @@ use Form::*;
 use Kinds::*;
 use Public::*;
 
-#[derive(Drop)]
+#[derive(Clone, Copy)]
 pub enum Form {
     Unknown,
     Uti,
@@ -30,14 +30,14 @@ pub enum Form {
 }
 
 // Kinds of messages.
-#[derive(Drop)]
+#[derive(Clone, Copy)]
 pub enum Kinds {
     None,
     All,
     Full,
 }
 
-#[derive(Drop)]
+#[derive(Clone, Copy)]
 pub enum Condition {
     Never,
     Always,
@@ -50,7 +50,7 @@ pub enum Condition {
     MonetarySpread,
 }
 
-#[derive(Drop)]
+#[derive(Clone, Copy)]
 pub enum Public {
     Hidden,
     Masked,
@@ -59,7 +59,7 @@ pub enum Public {
 
 // What the table says of an element: the form of its value, the messages that take it and those that need it, when it is due beside
 // that, when it is shown, and whether it is public.
-#[derive(Drop)]
+#[derive(Clone, Copy)]
 pub struct Element {
     pub form: Form,
     pub taken: Kinds,

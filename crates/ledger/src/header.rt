@@ -11,7 +11,7 @@ use notional::is_cap;
 use octets::{read_at, same};
 
 // The caps of the asset classes.
-#[derive(Drop)]
+#[derive(Clone, Copy)]
 pub struct Caps {
     pub cr: u64,
     pub ir: u64,
@@ -21,7 +21,7 @@ pub struct Caps {
 }
 
 // The numbers of a right header.
-#[derive(Drop)]
+#[derive(Clone, Copy)]
 pub struct Header {
     pub rows: u64,
     pub next: u64,
@@ -31,7 +31,7 @@ pub struct Header {
 }
 
 // What the check of a ledger answers: a fault, or the header's numbers.
-#[derive(Drop)]
+#[derive(Clone, Copy)]
 pub enum HeaderCheck {
     Fault,
     Value(Header),

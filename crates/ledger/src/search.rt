@@ -14,7 +14,7 @@ use terms::{SIZE, TIME_SIZE};
 
 // What a ledger has of a swap: whether it has a row, where the row stands, its status and its last identifier. An unknown swap has the
 // place behind the rows in use, and no status or identifier.
-#[derive(Drop)]
+#[derive(Clone, Copy)]
 pub struct Swap {
     pub known: bool,
     pub place: usize,

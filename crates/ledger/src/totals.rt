@@ -9,7 +9,7 @@ use actions::{CLOSED, ERRORED, LIVE, PORTED, UNKNOWN};
 use octets::{read_at, write_at};
 
 // How many swaps are live, closed, errored and ported.
-#[derive(Drop)]
+#[derive(Clone, Copy)]
 pub struct Totals {
     pub live: u32,
     pub closed: u32,

@@ -15,7 +15,7 @@ pub use layout::layout_right;
 
 // The reader of a message: the lent bytes, and how far it has come, an entry of the header. Each function over it takes it apart and
 // calls one on the bytes and a number.
-#[derive(Drop)]
+#[derive(Clone, Copy)]
 pub struct Reader<'a> {
     pub src: &'a [u8],
     pub at: usize,

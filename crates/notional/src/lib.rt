@@ -110,7 +110,7 @@ fn is_over(whole: u64, fraction: u64, cap: u64) -> bool
 }
 
 // What a tape line shows of a notional: whole units, and whether a plus sign follows.
-#[derive(Drop)]
+#[derive(Clone, Copy)]
 pub struct Masked {
     pub units: u64,
     pub plus: bool,

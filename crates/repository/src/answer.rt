@@ -10,7 +10,7 @@ const STATUS: u64 = 65_536;
 const IDENTIFIER: u64 = 16_777_216;
 
 // Verdict, element, status and identifier.
-#[derive(Drop)]
+#[derive(Clone, Copy)]
 pub struct Answer {
     pub verdict: u8,
     pub element: u8,

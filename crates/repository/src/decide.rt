@@ -23,7 +23,7 @@ use rules::{Judged, judge};
 
 // What 18 and the writes use of a message that every other rule admits: its action, the place of the swap's row, the swap's status before and after
 // it, its last identifier, the header's numbers, and the cap that applies.
-#[derive(Drop)]
+#[derive(Clone, Copy)]
 pub struct Admission {
     pub action: Action,
     pub place: usize,
@@ -36,7 +36,7 @@ pub struct Admission {
 }
 
 // A refusal, with verdict and element, or an admission: every rule but 18 is passed.
-#[derive(Drop)]
+#[derive(Clone, Copy)]
 pub enum Decision {
     Refused(u8, u8),
     Value(Admission),

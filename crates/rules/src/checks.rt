@@ -18,7 +18,7 @@ use message::{element, entries_of, is_here, last_code, next_place, value_here};
 use octets::same;
 
 // The checks that name the lowest element code at fault: 7, 8, 9 and 11.
-#[derive(Drop)]
+#[derive(Clone, Copy)]
 pub enum Check {
     Needed,
     Taken,

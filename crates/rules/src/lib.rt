@@ -24,7 +24,7 @@ use verdicts::{
 };
 
 // A refusal, with verdict and element, or the action of a message that no rule refuses.
-#[derive(Drop)]
+#[derive(Clone, Copy)]
 pub enum Judged {
     Refused(u8, u8),
     Value(Action),

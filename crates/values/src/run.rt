@@ -4,7 +4,7 @@ ghost use Rattle.values.specs.Run.{within, in_class, run_of, is_uti, is_event, i
 
 use crate::limits::{EVENT_SIZE, PACKAGE_MOST, UTI_LEAST, UTI_MOST};
 
-#[derive(Drop)]
+#[derive(Clone, Copy)]
 pub enum Class {
     Digit,
     Capital,
