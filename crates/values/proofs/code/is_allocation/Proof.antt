@@ -6,17 +6,17 @@ use borrow.Author.Rules.{rules}
 use Rattle.values.proofs.code.is_allocation.Statement.{statement}
 use Rattle.values.proofs.code.is_allocation.Tie as tie
 
-returns : tie.Need-returns
+returns : tie.Need-returns-then-is_code
 unfolding is_allocation text
-returns c = rw (sym c.before.is_code.ensures ∙ c.if1.true)
+returns c = rw (sym c.is_code.ensures ∙ c.if-is_code.true)
 
-returns-2 : tie.Need-returns-2
+returns-2 : tie.Need-returns-then-is_code-2
 unfolding is_allocation text
-returns-2 c = rw (sym c.before.before.before.before.is_code.ensures ∙ c.before.before.before.if1.false, sym c.before.is-code2.ensures ∙ c.if2.true)
+returns-2 c = rw (sym c.is_code.ensures ∙ c.if-is_code.false, sym c.is_code-2.ensures ∙ c.if-is_code-2.true)
 
-returns-3 : tie.Need-returns-3
+returns-3 : tie.Need-returns
 unfolding is_allocation text
-returns-3 c = rw (sym c.before.before.before.before.before.before.is_code.ensures ∙ c.before.before.before.before.before.if1.false, sym c.before.before.before.is-code2.ensures ∙ c.before.before.if2.false) c.is-code3.ensures
+returns-3 c = rw (sym c.is_code.ensures ∙ c.if-is_code.false, sym c.is_code-2.ensures ∙ c.if-is_code-2.false) c.is_code-3.ensures
 
 pub is_allocation_spec : {M : Type 1} → statement M
 is_allocation_spec =

@@ -9,7 +9,9 @@ use Rattle.values.proofs.code.is_asset_class.Tie as tie
 
 returns : tie.Need-returns
 unfolding is_asset_class row wide text
-returns c = c.one_of.ensures ∙ one_among 2 asset_classes c.before.before.before.args.v.now refl
+returns c = c.one_of.ensures ∙ one_among 2 asset_classes c.args.v.now refl
 
 pub is_asset_class_spec : {M : Type 1} → statement M
-is_asset_class_spec = tie.close (tie.spec (λ c. search rules) (λ c κs. search rules) returns)
+is_asset_class_spec = tie.close (tie.spec
+    (λ c κs. search rules)
+    returns)

@@ -9,7 +9,9 @@ use Rattle.values.proofs.code.is_cleared.Tie as tie
 
 returns : tie.Need-returns
 unfolding is_cleared row wide text
-returns c = c.one_of.ensures ∙ one_among 1 cleared_codes c.before.before.before.args.v.now refl
+returns c = c.one_of.ensures ∙ one_among 1 cleared_codes c.args.v.now refl
 
 pub is_cleared_spec : {M : Type 1} → statement M
-is_cleared_spec = tie.close (tie.spec (λ c. search rules) (λ c κs. search rules) returns)
+is_cleared_spec = tie.close (tie.spec
+    (λ c κs. search rules)
+    returns)

@@ -9,7 +9,9 @@ use Rattle.values.proofs.code.is_spread_notation.Tie as tie
 
 returns : tie.Need-returns
 unfolding is_spread_notation row wide text
-returns c = c.one_of.ensures ∙ one_among 1 spread_notations c.before.before.before.args.v.now refl
+returns c = c.one_of.ensures ∙ one_among 1 spread_notations c.args.v.now refl
 
 pub is_spread_notation_spec : {M : Type 1} → statement M
-is_spread_notation_spec = tie.close (tie.spec (λ c. search rules) (λ c κs. search rules) returns)
+is_spread_notation_spec = tie.close (tie.spec
+    (λ c κs. search rules)
+    returns)

@@ -7,16 +7,16 @@ use borrow.Author.Rules.{rules}
 use Rattle.values.proofs.lei.grow.Statement.{statement}
 use Rattle.values.proofs.lei.grow.Tie as tie
 
-sub-d : tie.Need-overflow-sub-d
-sub-d c = digit_below c.before.args.b c.if1.true c.before.requires.1
+sub-d : tie.Need-overflow_sub-d
+sub-d c = digit_below c.args.b c.if-b-lt65.true c.requires.1
 
-returns : tie.Need-returns
-returns c = sym (grow_digit c.before.args.r c.before.args.b c.if1.true)
+returns : tie.Need-returns-then-b-lt65
+returns c = sym (grow_digit c.args.r c.args.b c.if-b-lt65.true)
 
-returns-2 : tie.Need-returns-2
+returns-2 : tie.Need-returns
 returns-2 c =
-    let a = c.before.args in
-    omega (arith, grow_capital a.r a.b (capital_from a.b c.if1.false c.before.requires.1))
+    let a = c.args in
+    omega (arith, grow_capital a.r a.b (capital_from a.b c.if-b-lt65.false c.requires.1))
 
 pub grow_spec : {M : Type 1} → statement M
 grow_spec =

@@ -14,32 +14,32 @@ use borrow.Author.Rules.{rules}
 use Rattle.values.proofs.lei.remainder_of.Statement.{statement}
 use Rattle.values.proofs.lei.remainder_of.Tie as tie
 
-abbrev invariant-loop : tie.invariant-loop
+abbrev invariant-loop : tie.invariant-loop-k
 invariant-loop v r₀ k₀ r k = (k ≤ length v) × (r < lei_modulus) × (r ≡ running_remainder 0 (take k v))
 
-abbrev decreases-loop : tie.decreases-loop
+abbrev decreases-loop : tie.decreases-loop-k
 decreases-loop v r₀ k₀ r k = length v - k
 
-loop-holds : tie.Need-loop-init invariant-loop decreases-loop
+loop-holds : tie.Need-loop-k-init invariant-loop decreases-loop
 unfolding running_remainder
 loop-holds c = (search rules, omega arith, refl)
 
-next-remainder-requires : tie.Need-next-remainder-requires invariant-loop decreases-loop
+next-remainder-requires : tie.Need-next_remainder-r-requires invariant-loop decreases-loop
 next-remainder-requires c κs =
-    let l = c.before.before.loop in
-    (l.invariant.1, each_at CapitalOrDigit c.before.before.before.before.args.v.now l.k (omega arith) c.before.before.before.before.requires)
+    let l = c.loop-k in
+    (l.invariant.1, each_at CapitalOrDigit c.args.v.now l.k (omega arith) c.requires)
 
-loop-again : tie.Need-loop-preserved invariant-loop decreases-loop
+loop-again : tie.Need-loop-k-preserved invariant-loop decreases-loop
 loop-again c =
-    let l = c.before.before.before.loop in
-    let v = c.before.before.before.before.before.args.v.now in
-    let n = c.next-remainder.ensures.0 in
+    let l = c.loop-k in
+    let v = c.args.v.now in
+    let n = c.next_remainder-r.ensures.0 in
     (omega arith, n.1, n.0 ∙ ap (λ (r : ℕ). next_remainder r (get_or v l.k 0)) l.invariant.2 ∙ running_next v l.k (omega arith))
 
 returns : tie.Need-returns invariant-loop decreases-loop
 returns c =
-    let l = c.before.loop in
-    let v = c.before.before.before.args.v.now in
+    let l = c.loop-k in
+    let v = c.args.v.now in
     l.invariant.2 ∙ prefix_remainder v l.k ∙ ap (λ (s : Bytes). spell 0 s % lei_modulus) (take_all l.k v (omega arith))
 
 pub remainder_of_spec : {M : Type 1} → statement M

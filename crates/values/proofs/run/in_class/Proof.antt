@@ -4,26 +4,26 @@ use borrow.Author.Rules.{rules}
 use Rattle.values.proofs.run.in_class.Statement.{statement}
 use Rattle.values.proofs.run.in_class.Tie as tie
 
-returns : tie.Need-returns
-returns c = rw (c.before.before.enum-told3.given.1, sym c.before.is-within3.ensures ∙ c.if1.true)
+returns : tie.Need-returns-then-is_within
+returns c = rw (c.in-CapitalOrDigit.is, sym c.is_within-in-CapitalOrDigit.ensures ∙ c.if-is_within.true)
 
-returns-2 : tie.Need-returns-2
-returns-2 c = rw (c.before.before.enum-told4.given.1, sym c.before.is-within5.ensures ∙ c.if2.true)
+returns-2 : tie.Need-returns-then-is_within-2
+returns-2 c = rw (c.in-LetterOrDigit.is, sym c.is_within-in-LetterOrDigit.ensures ∙ c.if-is_within-2.true)
 
-returns-3 : tie.Need-returns-3
-returns-3 c = rw (c.before.before.before.before.enum-told4.given.1, sym c.before.before.before.is-within5.ensures ∙ c.before.before.if2.false, sym c.before.is-within6.ensures ∙ c.if3.true)
+returns-3 : tie.Need-returns-then-is_within-3
+returns-3 c = rw (c.in-LetterOrDigit.is, sym c.is_within-in-LetterOrDigit.ensures ∙ c.if-is_within-2.false, sym c.is_within-in-LetterOrDigit-2.ensures ∙ c.if-is_within-3.true)
 
-returns-4 : tie.Need-returns-4
-returns-4 c = rw c.before.enum_told.given.1 c.is_Within.ensures
+returns-4 : tie.Need-returns-in-Digit
+returns-4 c = rw c.in-Digit.is c.is_within.ensures
 
-returns-5 : tie.Need-returns-5
-returns-5 c = rw c.before.enum-told2.given.1 c.is-within2.ensures
+returns-5 : tie.Need-returns-in-Capital
+returns-5 c = rw c.in-Capital.is c.is_within-in-Capital.ensures
 
-returns-6 : tie.Need-returns-6
-returns-6 c = rw (c.before.before.before.enum-told3.given.1, sym c.before.before.is-within3.ensures ∙ c.before.if1.false) c.is-within4.ensures
+returns-6 : tie.Need-returns-else-is_within
+returns-6 c = rw (c.in-CapitalOrDigit.is, sym c.is_within-in-CapitalOrDigit.ensures ∙ c.if-is_within.false) c.is_within-in-CapitalOrDigit-2.ensures
 
-returns-7 : tie.Need-returns-7
-returns-7 c = rw (c.before.before.before.before.before.enum-told4.given.1, sym c.before.before.before.before.is-within5.ensures ∙ c.before.before.before.if2.false, sym c.before.before.is-within6.ensures ∙ c.before.if3.false) c.is-within7.ensures
+returns-7 : tie.Need-returns-else-is_within-3
+returns-7 c = rw (c.in-LetterOrDigit.is, sym c.is_within-in-LetterOrDigit.ensures ∙ c.if-is_within-2.false, sym c.is_within-in-LetterOrDigit-2.ensures ∙ c.if-is_within-3.false) c.is_within-in-LetterOrDigit-3.ensures
 
 pub in_class_spec : {M : Type 1} → statement M
 in_class_spec =

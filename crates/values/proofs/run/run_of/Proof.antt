@@ -5,7 +5,7 @@ use mathlib.Core.Bool.{Bool}
 use mathlib.Core.Path.{◌≡◌, sym, ◌∙◌}
 use native.Mathlib.Nat.{sub-zero}
 use native.Mathlib.Omega.{arith}
-use borrow.Author.Tests.{lt-leb, le-leb, not-true, not-false}
+use borrow.Author.Tests.{lt-leb, le-leb}
 use lib.ListN.{length, get_or}
 use Rattle.octets.specs.Bytes.{Bytes}
 use Rattle.octets.specs.Search.{all_from}
@@ -18,42 +18,42 @@ use Rattle.values.proofs.run.run_of.Tie as tie
 abbrev In : Class → Bytes → ℕ → Bool
 In class v k = in_class class (get_or v k 0)
 
-abbrev invariant-loop : tie.invariant-loop
+abbrev invariant-loop : tie.invariant-loop-k
 invariant-loop least most class v k₀ k = (k ≤ length v) × (all_from (In class v) k (length v - k) ≡ run_of least most class v)
 
-abbrev decreases-loop : tie.decreases-loop
+abbrev decreases-loop : tie.decreases-loop-k
 decreases-loop least most class v k₀ k = length v - k
 
-returns : tie.Need-returns invariant-loop decreases-loop
+returns : tie.Need-returns-then-v-least invariant-loop decreases-loop
 unfolding run_of
-returns c = rw (lt-leb _ _ c.if1.true)
+returns c = rw (lt-leb _ _ c.if-v-least.true)
 
-returns-2 : tie.Need-returns-2 invariant-loop decreases-loop
+returns-2 : tie.Need-returns-then-most-v invariant-loop decreases-loop
 unfolding run_of
-returns-2 c = rw (le-leb _ _ c.before.if1.false, lt-leb _ _ c.if2.true)
+returns-2 c = rw (le-leb _ _ c.if-v-least.false, lt-leb _ _ c.if-most-v.true)
 
-loop-holds : tie.Need-loop-init invariant-loop decreases-loop
+loop-holds : tie.Need-loop-k-init invariant-loop decreases-loop
 unfolding run_of
-loop-holds c = (search rules, rw (sub-zero, le-leb _ _ c.before.if1.false, le-leb _ _ c.if2.false))
+loop-holds c = (search rules, rw (sub-zero, le-leb _ _ c.if-v-least.false, le-leb _ _ c.if-most-v.false))
 
-returns-3 : tie.Need-returns-3 invariant-loop decreases-loop
+returns-3 : tie.Need-returns-then-not-in_class invariant-loop decreases-loop
 returns-3 c =
-    let a = c.before.before.before.before.before.before.before.before.args in
-    let l = c.before.before.before.before.loop in
+    let a = c.args in
+    let l = c.loop-k in
     let h : l.k < length a.v.now = omega arith in
-    sym (all_stop (In a.class a.v.now) l.k (length a.v.now) h (sym c.before.in-class.ensures ∙ not-true _ c.if3.true)) ∙ l.invariant.1
+    sym (all_stop (In a.class a.v.now) l.k (length a.v.now) h (sym c.in_class.ensures ∙ c.if-not-in_class.true)) ∙ l.invariant.1
 
-loop-again : tie.Need-loop-preserved invariant-loop decreases-loop
+loop-again : tie.Need-loop-k-preserved invariant-loop decreases-loop
 loop-again c =
-    let a = c.before.before.before.before.before.before.before.before.args in
-    let l = c.before.before.before.before.loop in
+    let a = c.args in
+    let l = c.loop-k in
     let h : l.k < length a.v.now = omega arith in
-    (omega arith, sym (all_more (In a.class a.v.now) l.k (length a.v.now) h (sym c.before.in-class.ensures ∙ not-false _ c.if3.false)) ∙ l.invariant.1)
+    (omega arith, sym (all_more (In a.class a.v.now) l.k (length a.v.now) h (sym c.in_class.ensures ∙ c.if-not-in_class.false)) ∙ l.invariant.1)
 
-returns-4 : tie.Need-returns-4 invariant-loop decreases-loop
+returns-4 : tie.Need-returns invariant-loop decreases-loop
 returns-4 c =
-    let a = c.before.before.before.before.before.args in
-    let l = c.before.loop in
+    let a = c.args in
+    let l = c.loop-k in
     let h : length a.v.now ≤ l.k = omega arith in
     sym (all_end (In a.class a.v.now) l.k (length a.v.now) h) ∙ l.invariant.1
 
