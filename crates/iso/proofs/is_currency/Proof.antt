@@ -22,24 +22,24 @@ law : CurrencyCapitals
 unfolding is_currency
 law = listed_capitals currency_size iso4217 test
 
-returns : tie.Need-returns
+returns : tie.Need-returns-then-v-ne-CURRENCY_SIZE
 unfolding is_currency
-returns c = (other_length currency_size iso4217 test c.before.before.args.v.now c.if1.true, law)
+returns c = (other_length currency_size iso4217 test c.args.v.now c.if-v-ne-CURRENCY_SIZE.true, law)
 
-returns-2 : tie.Need-returns-2
+returns-2 : tie.Need-returns-in-1095058432
 unfolding is_currency iso4217 numbers number read_on text
 returns-2 c =
-    let start = c.before.before.before.before in
-    let v = start.before.before.args.v.now in
-    let bytes : EachByte v = λ k. (start.before.shared-slice-known.given k).fits in
-    (listed currency_size iso4217 test v (_ ∷ (_ ∷ (_ ∷ []))) refl (c.before.before.before.byte_at.ensures, (c.before.before.byte-at2.ensures, (c.before.byte-at3.ensures, tt))) start.if1.false bytes c.match.keys1, law)
+    let start = c in
+    let v = start.args.v.now in
+    let bytes : EachByte v = λ k. (start.shared_slice_known-1.given k).fits in
+    (listed currency_size iso4217 test v (_ ∷ (_ ∷ (_ ∷ []))) refl (c.byte_at-a.ensures, (c.byte_at-b.ensures, (c.byte_at-c.ensures, tt))) start.if-v-ne-CURRENCY_SIZE.false bytes c.in-1095058432.is, law)
 
-returns-3 : tie.Need-returns-3
+returns-3 : tie.Need-returns-in_default
 unfolding is_currency iso4217 numbers number read_on text
 returns-3 c =
-    let start = c.before.before.before.before in
-    let v = start.before.before.args.v.now in
-    (not_listed currency_size iso4217 test v (_ ∷ (_ ∷ (_ ∷ []))) refl (c.before.before.before.byte_at.ensures, (c.before.before.byte-at2.ensures, (c.before.byte-at3.ensures, tt))) start.if1.false c.match.rest.1, law)
+    let start = c in
+    let v = start.args.v.now in
+    (not_listed currency_size iso4217 test v (_ ∷ (_ ∷ (_ ∷ []))) refl (c.byte_at-a.ensures, (c.byte_at-b.ensures, (c.byte_at-c.ensures, tt))) start.if-v-ne-CURRENCY_SIZE.false c.in-1095058432.rest.1, law)
 
 pub is_currency_spec : {M : Type 1} → statement M
 is_currency_spec =

@@ -22,24 +22,24 @@ law : LocationCapitals
 unfolding is_location
 law = listed_capitals location_size iso3166 test
 
-returns : tie.Need-returns
+returns : tie.Need-returns-then-v-ne-LOCATION_SIZE
 unfolding is_location
-returns c = (other_length location_size iso3166 test c.before.before.args.v.now c.if1.true, law)
+returns c = (other_length location_size iso3166 test c.args.v.now c.if-v-ne-LOCATION_SIZE.true, law)
 
-returns-2 : tie.Need-returns-2
+returns-2 : tie.Need-returns-in-4277248
 unfolding is_location iso3166 numbers number read_on text
 returns-2 c =
-    let start = c.before.before.before in
-    let v = start.before.before.args.v.now in
-    let bytes : EachByte v = λ k. (start.before.shared-slice-known.given k).fits in
-    (listed location_size iso3166 test v (_ ∷ (_ ∷ [])) refl (c.before.before.byte_at.ensures, (c.before.byte-at2.ensures, tt)) start.if1.false bytes c.match.keys1, law)
+    let start = c in
+    let v = start.args.v.now in
+    let bytes : EachByte v = λ k. (start.shared_slice_known-1.given k).fits in
+    (listed location_size iso3166 test v (_ ∷ (_ ∷ [])) refl (c.byte_at-a.ensures, (c.byte_at-b.ensures, tt)) start.if-v-ne-LOCATION_SIZE.false bytes c.in-4277248.is, law)
 
-returns-3 : tie.Need-returns-3
+returns-3 : tie.Need-returns-in_default
 unfolding is_location iso3166 numbers number read_on text
 returns-3 c =
-    let start = c.before.before.before in
-    let v = start.before.before.args.v.now in
-    (not_listed location_size iso3166 test v (_ ∷ (_ ∷ [])) refl (c.before.before.byte_at.ensures, (c.before.byte-at2.ensures, tt)) start.if1.false c.match.rest.1, law)
+    let start = c in
+    let v = start.args.v.now in
+    (not_listed location_size iso3166 test v (_ ∷ (_ ∷ [])) refl (c.byte_at-a.ensures, (c.byte_at-b.ensures, tt)) start.if-v-ne-LOCATION_SIZE.false c.in-4277248.rest.1, law)
 
 pub is_location_spec : {M : Type 1} → statement M
 is_location_spec =

@@ -9,18 +9,18 @@ use borrow.Author.Rules.{rules}
 use Rattle.numbers.proofs.decimals_of.Statement.{statement}
 use Rattle.numbers.proofs.decimals_of.Tie as tie
 
-returns : tie.Need-returns
+returns : tie.Need-returns-then-p-v
 unfolding decimals_of
 returns c =
-    let v = c.before.before.before.before.args.v.now in
-    let p = c.before.before.point-in.result in
-    take_all (length v - (p + 1)) (drop (p + 1) v) (omega (arith, length-drop (p + 1) v)) ∙ ap (λ k. drop (k + 1) v) c.before.before.point-in.ensures.0
+    let v = c.args.v.now in
+    let p = c.point_in-p.result in
+    take_all (length v - (p + 1)) (drop (p + 1) v) (omega (arith, length-drop (p + 1) v)) ∙ ap (λ k. drop (k + 1) v) c.point_in-p.ensures.0
 
-returns-2 : tie.Need-returns-2
+returns-2 : tie.Need-returns
 unfolding decimals_of
 returns-2 c =
-    let v = c.before.before.before.before.args.v.now in
-    let p = c.before.before.point-in.result in
+    let v = c.args.v.now in
+    let p = c.point_in-p.result in
     let here : length v ≤ p = omega arith in
     let after : length v ≤ point_in v + 1 = omega arith in
     rw (drop_of_length-le v {i = p} here, drop_of_length-le v {i = point_in v + 1} after) (take-nil (length v - p))

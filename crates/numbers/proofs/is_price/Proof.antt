@@ -8,7 +8,7 @@ use Rattle.numbers.proofs.is_price.Tie as tie
 
 returns : tie.Need-returns
 unfolding is_price
-returns c = c.is_number.ensures ∙ ap (is_number price_digits price_decimals) c.before.Unsigned-of.ensures
+returns c = c.is_number.ensures ∙ ap (is_number price_digits price_decimals) c.unsigned_of.ensures
 
 pub is_price_spec : {M : Type 1} → statement M
 is_price_spec = tie.close (tie.spec (λ c κs. search rules) (λ c κs. search rules) returns)

@@ -19,34 +19,34 @@ use Rattle.numbers.proofs.point_in.Tie as tie
 abbrev Is : Bytes → ℕ → Bool
 Is v k = eqb (get_or v k 0) (code ".")
 
-abbrev invariant-loop : tie.invariant-loop
+abbrev invariant-loop : tie.invariant-loop-k
 invariant-loop v k₀ k = (k ≤ length v) × (first_from (Is v) k (length v - k) ≡ point_in v)
 
-abbrev decreases-loop : tie.decreases-loop
+abbrev decreases-loop : tie.decreases-loop-k
 decreases-loop v k₀ k = length v - k
 
-loop-holds : tie.Need-loop-init invariant-loop decreases-loop
+loop-holds : tie.Need-loop-k-init invariant-loop decreases-loop
 unfolding point_in
 loop-holds c = (search rules, rw sub-zero)
 
-returns : tie.Need-returns invariant-loop decreases-loop
+returns : tie.Need-returns-then-v-k-eq46 invariant-loop decreases-loop
 returns c =
-    let v = c.before.before.before.before.args.v.now in
-    let l = c.before.before.before.loop in
+    let v = c.args.v.now in
+    let l = c.loop-k in
     let h : l.k < length v = omega arith in
-    (sym (first_stop (Is v) l.k (length v) h (eq-eqb _ _ c.if1.true)) ∙ l.invariant.1, omega arith)
+    (sym (first_stop (Is v) l.k (length v) h (eq-eqb _ _ c.if-v-k-eq46.true)) ∙ l.invariant.1, omega arith)
 
-loop-again : tie.Need-loop-preserved invariant-loop decreases-loop
+loop-again : tie.Need-loop-k-preserved invariant-loop decreases-loop
 loop-again c =
-    let v = c.before.before.before.before.args.v.now in
-    let l = c.before.before.before.loop in
+    let v = c.args.v.now in
+    let l = c.loop-k in
     let h : l.k < length v = omega arith in
-    (omega arith, sym (first_more (Is v) l.k (length v) h (ne_eqb _ _ c.if1.false)) ∙ l.invariant.1)
+    (omega arith, sym (first_more (Is v) l.k (length v) h (ne_eqb _ _ c.if-v-k-eq46.false)) ∙ l.invariant.1)
 
-returns-2 : tie.Need-returns-2 invariant-loop decreases-loop
+returns-2 : tie.Need-returns invariant-loop decreases-loop
 returns-2 c =
-    let v = c.before.before.args.v.now in
-    let l = c.before.loop in
+    let v = c.args.v.now in
+    let l = c.loop-k in
     let h : length v ≤ l.k = omega arith in
     (sym (first_end (Is v) l.k (length v) h) ∙ l.invariant.1, omega arith)
 

@@ -7,12 +7,12 @@ use borrow.Author.Rules.{rules}
 use Rattle.numbers.proofs.whole_of.Statement.{statement}
 use Rattle.numbers.proofs.whole_of.Tie as tie
 
-slice-aggregate-result : tie.Need-slice-aggregate-result
-slice-aggregate-result c = sym (length-take-le _ c.before.before.before.args.v.now c.before.point-in.ensures.1)
+slice-aggregate-result : tie.Need-slice_bounds-result-end
+slice-aggregate-result c = sym (length-take-le _ c.args.v.now c.point_in-p.ensures.1)
 
 returns : tie.Need-returns
 unfolding whole_of
-returns c = ap (λ k. take k c.before.before.before.args.v.now) c.before.point-in.ensures.0
+returns c = ap (λ k. take k c.args.v.now) c.point_in-p.ensures.0
 
 pub whole_of_spec : {M : Type 1} → statement M
 whole_of_spec = tie.close (tie.spec (λ c κs. search rules) slice-aggregate-result returns)
