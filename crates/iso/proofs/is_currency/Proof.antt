@@ -39,7 +39,7 @@ unfolding is_currency iso4217 numbers number read_on text
 returns-3 c =
     let start = c in
     let v = start.args.v.now in
-    (not_listed currency_size iso4217 test v (_ ∷ (_ ∷ (_ ∷ []))) refl (c.byte_at-a.ensures, (c.byte_at-b.ensures, (c.byte_at-c.ensures, tt))) start.if-v-ne-CURRENCY_SIZE.false c.in-1095058432.rest.1, law)
+    (not_listed currency_size iso4217 test v (_ ∷ (_ ∷ (_ ∷ []))) refl (c.byte_at-a.ensures, (c.byte_at-b.ensures, (c.byte_at-c.ensures, tt))) start.if-v-ne-CURRENCY_SIZE.false c.in_default.in_default-own.rest.1, law)
 
 pub is_currency_spec : {M : Type 1} → statement M
 is_currency_spec =

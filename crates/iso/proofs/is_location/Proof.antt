@@ -39,7 +39,7 @@ unfolding is_location iso3166 numbers number read_on text
 returns-3 c =
     let start = c in
     let v = start.args.v.now in
-    (not_listed location_size iso3166 test v (_ ∷ (_ ∷ [])) refl (c.byte_at-a.ensures, (c.byte_at-b.ensures, tt)) start.if-v-ne-LOCATION_SIZE.false c.in-4277248.rest.1, law)
+    (not_listed location_size iso3166 test v (_ ∷ (_ ∷ [])) refl (c.byte_at-a.ensures, (c.byte_at-b.ensures, tt)) start.if-v-ne-LOCATION_SIZE.false c.in_default.in_default-own.rest.1, law)
 
 pub is_location_spec : {M : Type 1} → statement M
 is_location_spec =
