@@ -7,23 +7,23 @@ use borrow.Author.Rules.{rules}
 use Rattle.dates.proofs.days_in.Statement.{statement}
 use Rattle.dates.proofs.days_in.Tie as tie
 
-returns : tie.Need-returns
+returns : tie.Need-returns-then-is_leap
 unfolding days_in
-returns c = rw (c.before.before.match.keys1, sym c.before.is-leap.ensures ∙ c.if1.true)
+returns c = rw (c.in-2.is, sym c.is_leap.ensures ∙ c.if-is_leap.true)
 
-returns-2 : tie.Need-returns-2
+returns-2 : tie.Need-returns-else-is_leap
 unfolding days_in
-returns-2 c = rw (c.before.before.match.keys1, sym c.before.is-leap.ensures ∙ c.if1.false)
+returns-2 c = rw (c.in-2.is, sym c.is_leap.ensures ∙ c.if-is_leap.false)
 
-returns-3 : tie.Need-returns-3
+returns-3 : tie.Need-returns-in-4
 unfolding days_in
-returns-3 c = ⊎_elim (λ e. rw e) (⊎_elim (λ e. rw e) (⊎_elim (λ e. rw e) (λ e. rw e))) c.match.keys2
+returns-3 c = ⊎_elim (λ e. rw e) (⊎_elim (λ e. rw e) (⊎_elim (λ e. rw e) (λ e. rw e))) c.in-4.is
 
-returns-4 : tie.Need-returns-4
+returns-4 : tie.Need-returns-in_default
 unfolding days_in
 returns-4 c =
-    let r = c.match.rest in
-    let m = c.before.args.m in
+    let r = c.in_default.in_default-own.rest in
+    let m = c.args.m in
     rw (
       ne_eqb m 2 r.0.1,
       ne_eqb m 4 (λ e. r.1 (inl e)),

@@ -8,31 +8,31 @@ use borrow.Author.Rules.{rules}
 use Rattle.dates.proofs.is_before.Statement.{statement}
 use Rattle.dates.proofs.is_before.Tie as tie
 
-abbrev invariant-loop : tie.invariant-loop
+abbrev invariant-loop : tie.invariant-loop-i
 invariant-loop a b i₀ i = before (drop i a) (drop i b) ≡ before a b
 
-abbrev decreases-loop : tie.decreases-loop
+abbrev decreases-loop : tie.decreases-loop-i
 decreases-loop a b i₀ i = length b - i
 
-returns : tie.Need-returns invariant-loop decreases-loop
+returns : tie.Need-returns-then-a-i invariant-loop decreases-loop
 returns c =
-    let l = c.before.before.loop in
-    (sym (before_short _ _ l.i c.before.loop-test.true c.if1.true) ∙ l.invariant, (date_order, time_order))
+    let l = c.loop-i in
+    (sym (before_short _ _ l.i c.loop-i-test.true c.if-a-i.true) ∙ l.invariant, (date_order, time_order))
 
-returns-2 : tie.Need-returns-2 invariant-loop decreases-loop
+returns-2 : tie.Need-returns-then-a-i-2 invariant-loop decreases-loop
 returns-2 c =
-    let l = c.before.before.before.before.before.before.before.loop in
-    (sym (before_here _ _ l.i (search rules) (search rules) c.before.before.if2.true) ∙ l.invariant, (date_order, time_order))
+    let l = c.loop-i in
+    (sym (before_here _ _ l.i (search rules) (search rules) c.if-a-i-2.true) ∙ l.invariant, (date_order, time_order))
 
-loop-again : tie.Need-loop-preserved invariant-loop decreases-loop
+loop-again : tie.Need-loop-i-preserved invariant-loop decreases-loop
 loop-again c =
-    let l = c.before.before.before.before.before.loop in
-    sym (before_more _ _ l.i (search rules) (search rules) c.if2.false) ∙ l.invariant
+    let l = c.loop-i in
+    sym (before_more _ _ l.i (search rules) (search rules) c.if-a-i-2.false) ∙ l.invariant
 
-returns-3 : tie.Need-returns-3 invariant-loop decreases-loop
+returns-3 : tie.Need-returns invariant-loop decreases-loop
 returns-3 c =
-    let l = c.before.loop in
-    (sym (ap (before (drop l.i _)) (drop_of_length-le _ {i = l.i} c.loop-test.false) ∙ before_none _) ∙ l.invariant, (date_order, time_order))
+    let l = c.loop-i in
+    (sym (ap (before (drop l.i _)) (drop_of_length-le _ {i = l.i} c.loop-i-test.false) ∙ before_none _) ∙ l.invariant, (date_order, time_order))
 
 pub is_before_spec : {M : Type 1} → statement M
 is_before_spec =

@@ -2,7 +2,7 @@
 use Prim.Native.Nat.{ℕ, ◌<◌, ◌≤◌}
 use mathlib.Core.Path.{◌≡◌, sym, ap, ◌∙◌}
 use native.Mathlib.Omega.{arith}
-use borrow.Author.Tests.{lt-ltb, le-ltb, not-true, not-false}
+use borrow.Author.Tests.{lt-ltb, le-ltb}
 use lib.Dec.{ltb}
 use Rattle.octets.specs.Choice.{both}
 use Rattle.octets.specs.Text.{text}
@@ -12,43 +12,42 @@ use Rattle.dates.proofs.is_time.Statement.{statement}
 use Rattle.dates.proofs.is_time.Tie as tie
 
 -- where the pattern fits and the date is one, hours, minutes and seconds decide
-dated : (c : tie.Else2) → is_time c.before.before.before.before.before.before.args.v.now ≡ both (ltb (two_digits c.before.before.before.before.before.before.args.v.now 11) 24) (both (ltb (two_digits c.before.before.before.before.before.before.args.v.now 14) 60) (ltb (two_digits c.before.before.before.before.before.before.args.v.now 17) 60))
+dated : (c : tie.Else-not-names_date) → is_time c.args.v.now ≡ both (ltb (two_digits c.args.v.now 11) 24) (both (ltb (two_digits c.args.v.now 14) 60) (ltb (two_digits c.args.v.now 17) 60))
 unfolding is_time text
-dated c = rw (sym c.before.before.before.fits-pattern.ensures ∙ not-false _ c.before.before.if1.false, sym c.before.names-date.ensures ∙ not-false _ c.if2.false)
+dated c = rw (sym c.fits_pattern.ensures ∙ c.if-not-fits_pattern.false, sym c.names_date.ensures ∙ c.if-not-names_date.false)
 
-returns : tie.Need-returns
+returns : tie.Need-returns-then-not-fits_pattern
 unfolding is_time text
-returns c = rw (sym c.before.fits-pattern.ensures ∙ not-true _ c.if1.true)
+returns c = rw (sym c.fits_pattern.ensures ∙ c.if-not-fits_pattern.true)
 
-returns-2 : tie.Need-returns-2
+returns-2 : tie.Need-returns-then-not-names_date
 unfolding is_time text
-returns-2 c = rw (sym c.before.before.before.fits-pattern.ensures ∙ not-false _ c.before.before.if1.false, sym c.before.names-date.ensures ∙ not-true _ c.if2.true)
+returns-2 c = rw (sym c.fits_pattern.ensures ∙ c.if-not-fits_pattern.false, sym c.names_date.ensures ∙ c.if-not-names_date.true)
 
-returns-3 : tie.Need-returns-3
+returns-3 : tie.Need-returns-then-two_at-ge24
 returns-3 c =
-    let v = c.before.before.before.before.before.before.before.before.args.v.now in
+    let v = c.args.v.now in
     let x : 24 ≤ two_digits v 11 = omega arith in
     rw (dated c.before.before, le-ltb _ _ x)
 
-returns-4 : tie.Need-returns-4
+returns-4 : tie.Need-returns-then-two_at-ge60
 returns-4 c =
-    let v = c.before.before.before.before.before.before.before.before.before.before.args.v.now in
+    let v = c.args.v.now in
     let x : two_digits v 11 < 24 = omega arith in
     let y : 60 ≤ two_digits v 14 = omega arith in
     rw (dated c.before.before.before.before, lt-ltb _ _ x, le-ltb _ _ y)
 
-returns-5 : tie.Need-returns-5
+returns-5 : tie.Need-returns
 returns-5 c =
-    let v = c.before.before.before.before.before.before.before.before.before.before.before.args.v.now in
+    let v = c.args.v.now in
     let x : two_digits v 11 < 24 = omega arith in
     let y : two_digits v 14 < 60 = omega arith in
-    rw (dated c.before.before.before.before.before, lt-ltb _ _ x, lt-ltb _ _ y) (ap (λ (n : ℕ). ltb n 60) c.two-at3.ensures.0)
+    rw (dated c.before.before.before.before.before, lt-ltb _ _ x, lt-ltb _ _ y) (ap (λ (n : ℕ). ltb n 60) c.two_at-3.ensures.0)
 
 pub is_time_spec : {M : Type 1} → statement M
 is_time_spec =
     tie.close
     (tie.spec
-    (λ c. search rules)
     (λ c κs. search rules)
     returns
     (λ c κs. search rules)

@@ -7,8 +7,8 @@ use Rattle.dates.proofs.names_date.Tie as tie
 returns : tie.Need-returns
 unfolding names_date
 returns c =
-    rw (← c.before.before.before.before.two_at.ensures.0, ← c.before.before.before.two-at2.ensures.0, ← c.before.before.two-at3.ensures.0, ← c.before.two-at4.ensures.0)
-    c.is-gregorian.ensures
+    rw (← c.two_at.ensures.0, ← c.two_at-2.ensures.0, ← c.two_at-3.ensures.0, ← c.two_at-4.ensures.0)
+    c.is_gregorian.ensures
 
 pub names_date_spec : {M : Type 1} → statement M
 names_date_spec =

@@ -5,17 +5,17 @@ use Rattle.notional.specs.Amount.{digit}
 use Rattle.notional.proofs.digit_of.Statement.{statement}
 use Rattle.notional.proofs.digit_of.Tie as tie
 
-returns : tie.Need-returns
+returns : tie.Need-returns-then-b-lt48
 unfolding digit
-returns c = (rw (lt-leb _ _ c.if1.true), search rules)
+returns c = (rw (lt-leb _ _ c.if-b-lt48.true), search rules)
 
-returns-2 : tie.Need-returns-2
+returns-2 : tie.Need-returns-then-b-gt57
 unfolding digit
-returns-2 c = (rw (le-leb _ _ c.before.if1.false, lt-leb _ _ c.if2.true), search rules)
+returns-2 c = (rw (le-leb _ _ c.if-b-lt48.false, lt-leb _ _ c.if-b-gt57.true), search rules)
 
-returns-3 : tie.Need-returns-3
+returns-3 : tie.Need-returns
 unfolding digit
-returns-3 c = (rw (le-leb _ _ c.before.if1.false, le-leb _ _ c.if2.false), search rules)
+returns-3 c = (rw (le-leb _ _ c.if-b-lt48.false, le-leb _ _ c.if-b-gt57.false), search rules)
 
 pub digit_of_spec : {M : Type 1} → statement M
 digit_of_spec = tie.close (tie.spec returns returns-2 (λ c. search rules) returns-3)

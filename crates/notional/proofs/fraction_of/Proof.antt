@@ -14,47 +14,47 @@ use Rattle.notional.proofs.AmountLaws.{spelled_more, digits_fit, digit_padded}
 use Rattle.notional.proofs.fraction_of.Statement.{statement}
 use Rattle.notional.proofs.fraction_of.Tie as tie
 
-abbrev invariant-loop : tie.invariant-loop
+abbrev invariant-loop : tie.invariant-loop-k
 invariant-loop v d n₀ k₀ n k = (k ≤ notionalDecimals) × (n < 10 ^ k) × (n ≡ spelled 0 (take k (d ++ replicate notionalDecimals (code "0"))))
 
-abbrev decreases-loop : tie.decreases-loop
+abbrev decreases-loop : tie.decreases-loop-k
 decreases-loop v d n₀ k₀ n k = notionalDecimals - k
 
-loop-holds : tie.Need-loop-init invariant-loop decreases-loop
+loop-holds : tie.Need-loop-k-init invariant-loop decreases-loop
 unfolding spelled
 loop-holds c = search rules
 
 -- before the last turn there is room for a digit more
-room : (c : tie.In-loop invariant-loop decreases-loop) → c.before.loop.n < unit
+room : (c : tie.In-loop-k invariant-loop decreases-loop) → c.loop-k.n < unit
 room c =
-    let l = c.before.loop in
+    let l = c.loop-k in
     let top : 10 ^ l.k ≤ 10 ^ notionalDecimals = pow-le-pow_right (omega arith) l.invariant.0 in
     omega arith
 
-mul-n : tie.Need-overflow-mul-n invariant-loop decreases-loop
+mul-n : tie.Need-overflow_mul-n invariant-loop decreases-loop
 mul-n c = omega (arith, room c)
 
-add-n : tie.Need-overflow-add-n invariant-loop decreases-loop
+add-n : tie.Need-overflow_add-n invariant-loop decreases-loop
 add-n c = omega (arith, room c.before.before)
 
-loop-again : tie.Need-loop-preserved invariant-loop decreases-loop
+loop-again : tie.Need-loop-k-preserved invariant-loop decreases-loop
 loop-again c =
-    let d = c.before.before.before.before.decimals-of.result.now in
-    let l = c.before.before.before.loop in
+    let d = c.decimals_of-d.result.now in
+    let l = c.loop-k in
     let zeros = replicate notionalDecimals (code "0") in
     let h : l.k < length (d ++ zeros) = rw length-append (omega arith) in
-    let e : c.digit-of.result ≡ digit (get_or (d ++ zeros) l.k 0) = c.digit-of.ensures.0 ∙ ap digit c.before.byte_at.ensures ∙ sym (digit_padded d notionalDecimals l.k) in (
+    let e : c.digit_of.result ≡ digit (get_or (d ++ zeros) l.k 0) = c.digit_of.ensures.0 ∙ ap digit c.byte_at.ensures ∙ sym (digit_padded d notionalDecimals l.k) in (
       omega arith,
-      digits_fit l.k l.n _ l.invariant.1 c.digit-of.ensures.1,
+      digits_fit l.k l.n _ l.invariant.1 c.digit_of.ensures.1,
       omega (arith, spelled_more (d ++ zeros) l.k h),
     )
 
 returns : tie.Need-returns invariant-loop decreases-loop
 unfolding fraction
 returns c =
-    let l = c.before.loop in
+    let l = c.loop-k in
     let e : l.k ≡ notionalDecimals = omega arith in (
-      rw e at l.invariant.2 ∙ ap (λ (s : Bytes). spelled 0 (take notionalDecimals (s ++ replicate notionalDecimals (code "0")))) c.before.before.decimals-of.ensures,
+      rw e at l.invariant.2 ∙ ap (λ (s : Bytes). spelled 0 (take notionalDecimals (s ++ replicate notionalDecimals (code "0")))) c.decimals_of-d.ensures,
       rw e at l.invariant.1,
     )
 

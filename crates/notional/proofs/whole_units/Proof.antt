@@ -12,30 +12,30 @@ use Rattle.notional.proofs.AmountLaws.{spelled_more}
 use Rattle.notional.proofs.whole_units.Statement.{statement}
 use Rattle.notional.proofs.whole_units.Tie as tie
 
-abbrev invariant-loop : tie.invariant-loop
+abbrev invariant-loop : tie.invariant-loop-k
 invariant-loop v w n₀ k₀ n k = (k ≤ length w) × (n ≡ min (spelled 0 (take k w)) (largest_cap + 1))
 
-abbrev decreases-loop : tie.decreases-loop
+abbrev decreases-loop : tie.decreases-loop-k
 decreases-loop v w n₀ k₀ n k = length w - k
 
-loop-holds : tie.Need-loop-init invariant-loop decreases-loop
+loop-holds : tie.Need-loop-k-init invariant-loop decreases-loop
 unfolding spelled
 loop-holds c = search rules
 
-loop-again : tie.Need-loop-preserved invariant-loop decreases-loop
+loop-again : tie.Need-loop-k-preserved invariant-loop decreases-loop
 loop-again c =
-    let w = c.before.before.before.before.before.whole_of.result.now in
-    let l = c.before.before.before.before.loop in
+    let w = c.whole_of-w.result.now in
+    let l = c.loop-k in
     let h : l.k < length w = omega arith in
-    let d : c.before.digit-of.result ≡ digit (get_or w l.k 0) = c.before.digit-of.ensures.0 in
+    let d : c.digit_of.result ≡ digit (get_or w l.k 0) = c.digit_of.ensures.0 in
     (omega arith, omega (arith, spelled_more w l.k h))
 
 returns : tie.Need-returns invariant-loop decreases-loop
 returns c =
-    let w = c.before.before.whole_of.result.now in
-    let l = c.before.loop in
+    let w = c.whole_of-w.result.now in
+    let l = c.loop-k in
     let all : take l.k w ≡ w = take_all l.k w (omega arith) in
-    l.invariant.1 ∙ ap (λ (s : Bytes). min (spelled 0 s) (largest_cap + 1)) (all ∙ c.before.before.whole_of.ensures)
+    l.invariant.1 ∙ ap (λ (s : Bytes). min (spelled 0 s) (largest_cap + 1)) (all ∙ c.whole_of-w.ensures)
 
 pub whole_units_spec : {M : Type 1} → statement M
 whole_units_spec =

@@ -11,8 +11,8 @@ use Rattle.actions.proofs.matrix.has_tick.Tie as tie
 returns : tie.Need-returns
 unfolding numbers tick text
 returns c =
-    let row = c.before.columns_of.ensures in
-    table_at tick (no_event + 1) c.before.columns_of.result.place c.before.before.args.a c.before.before.args.column false row.0 row.1 (search rules)
+    let row = c.columns_of-row.ensures in
+    table_at tick (no_event + 1) c.columns_of-row.result.place c.args.a c.args.column false row.0 row.1 (search rules)
 
 pub has_tick_spec : {M : Type 1} → statement M
 has_tick_spec =

@@ -15,29 +15,29 @@ use Rattle.actions.proofs.matrix.is_pair.Statement.{statement}
 use Rattle.actions.proofs.matrix.is_pair.Tie as tie
 
 -- the column that was found
-column : (c : tie.After-place-in) → c.IsPlace-in.result ≡ place events c.before.before.before.before.args.event.now
+column : (c : tie.After-place_in-column) → c.place_in-column.result ≡ place events c.args.event.now
 unfolding row wide text
-column c = c.IsPlace-in.ensures ∙ among event_size events c.before.before.before.before.args.event.now refl
+column c = c.place_in-column.ensures ∙ among event_size events c.args.event.now refl
 
-returns : tie.Need-returns
+returns : tie.Need-returns-then-event-eq0
 unfolding pair_allowed
-returns c = (rw (eq-eqb _ _ c.before.if1.true) c.Has-tick.ensures, named_pairs)
+returns c = (rw (eq-eqb _ _ c.if-event-eq0.true) c.has_tick.ensures, named_pairs)
 
-returns-2 : tie.Need-returns-2
+returns-2 : tie.Need-returns-then-column-lt-NO_EVENT
 unfolding pair_allowed one_of
 returns-2 c =
     let p = column c.before.before in
-    let event = c.before.before.before.before.before.before.args.event.now in
+    let event = c.args.event.now in
     let h : place events event < no_event = omega arith in
-    (rw (ne_eqb _ _ c.before.before.before.before.if1.false, lt-ltb _ _ h) (c.has-tick2.ensures ∙ ap (tick _) p), named_pairs)
+    (rw (ne_eqb _ _ c.if-event-eq0.false, lt-ltb _ _ h) (c.has_tick-then-column-lt-NO_EVENT.ensures ∙ ap (tick _) p), named_pairs)
 
-returns-3 : tie.Need-returns-3
+returns-3 : tie.Need-returns
 unfolding pair_allowed one_of
 returns-3 c =
     let p = column c.before in
-    let event = c.before.before.before.before.before.args.event.now in
+    let event = c.args.event.now in
     let h : no_event ≤ place events event = omega arith in
-    (rw (ne_eqb _ _ c.before.before.before.if1.false, le-ltb _ _ h), named_pairs)
+    (rw (ne_eqb _ _ c.if-event-eq0.false, le-ltb _ _ h), named_pairs)
 
 pub is_pair_spec : {M : Type 1} → statement M
 is_pair_spec =
@@ -45,7 +45,6 @@ is_pair_spec =
     (tie.spec
     (λ c κs. search rules)
     returns
-    (λ c. search rules)
     (λ c κs. search rules)
     (λ c κs. search rules)
     returns-2

@@ -10,14 +10,14 @@ use borrow.Author.Rules.{rules}
 use Rattle.actions.proofs.statuses.status_after.Statement.{statement}
 use Rattle.actions.proofs.statuses.status_after.Tie as tie
 
-returns : tie.Need-returns
-returns c = sym (step_none c.before.args.a _ c.if1.true)
+returns : tie.Need-returns-then-status-gt-PORTED
+returns c = sym (step_none c.args.a _ c.if-status-gt-PORTED.true)
 
-returns-2 : tie.Need-returns-2
+returns-2 : tie.Need-returns
 unfolding numbers
 returns-2 c =
-    let args = c.before.before.before.args in
-    ap (λ (steps : List _). get_or steps args.status no_step) c.before.columns_of.ensures.7 ∙ entry (next_status args.a) (ported + 1) args.status no_step (search rules)
+    let args = c.args in
+    ap (λ (steps : List _). get_or steps args.status no_step) c.columns_of.ensures.7 ∙ entry (next_status args.a) (ported + 1) args.status no_step (search rules)
 
 pub status_after_spec : {M : Type 1} → statement M
 status_after_spec = tie.close (tie.spec returns (λ c κs. search rules) (λ c. search rules) returns-2)

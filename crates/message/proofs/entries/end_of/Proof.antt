@@ -7,18 +7,18 @@ use borrow.Author.Rules.{rules}
 use Rattle.message.proofs.entries.end_of.Statement.{statement}
 use Rattle.message.proofs.entries.end_of.Tie as tie
 
-returns : tie.Need-returns
+returns : tie.Need-returns-then-k-n
 unfolding end_of
 returns c =
-    let a = c.before.before.before.args in
-    let h : a.k + 1 < entries a.m.now = omega (arith, c.before.before.before.requires.0) in
-    rw (lt-ltb _ _ h) c.u16-inside.ensures.0
+    let a = c.args in
+    let h : a.k + 1 < entries a.m.now = omega (arith, c.requires.0) in
+    rw (lt-ltb _ _ h) c.u16_inside.ensures.0
 
-returns-2 : tie.Need-returns-2
+returns-2 : tie.Need-returns
 unfolding end_of
 returns-2 c =
-    let a = c.before.before.args in
-    let h : entries a.m.now ≤ a.k + 1 = omega (arith, c.before.before.requires.0) in
+    let a = c.args in
+    let h : entries a.m.now ≤ a.k + 1 = omega (arith, c.requires.0) in
     rw (le-ltb _ _ h)
 
 pub end_of_spec : {M : Type 1} → statement M

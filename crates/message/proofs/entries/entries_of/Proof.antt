@@ -5,15 +5,15 @@ use borrow.Author.Rules.{rules}
 use Rattle.message.proofs.entries.entries_of.Statement.{statement}
 use Rattle.message.proofs.entries.entries_of.Tie as tie
 
-returns : tie.Need-returns
+returns : tie.Need-returns-then-m-lt-COUNT
 unfolding entries
 returns c = (omega arith, omega arith, omega arith)
 
-returns-2 : tie.Need-returns-2
+returns-2 : tie.Need-returns-then-n-room
 unfolding entries
 returns-2 c = (omega arith, omega arith, omega arith)
 
-returns-3 : tie.Need-returns-3
+returns-3 : tie.Need-returns
 unfolding entries
 returns-3 c = (omega arith, omega arith, omega arith)
 

@@ -10,19 +10,19 @@ use borrow.Author.Rules.{rules}
 use Rattle.message.proofs.entries.is_here.Statement.{statement}
 use Rattle.message.proofs.entries.is_here.Tie as tie
 
-returns : tie.Need-returns
+returns : tie.Need-returns-then-n-at
 returns c =
-    let a = c.before.before.args in
+    let a = c.args in
     let n : a.n ≡ entries a.m.now = search rules in
     let h : count a.m.now ≤ a.at = omega (arith, n, laid_entries a.m.now (search rules)) in
     sym (not_here a.m.now (search rules) a.code a.at (search rules) (λ l. absurd (omega arith)))
 
-returns-2 : tie.Need-returns-2
+returns-2 : tie.Need-returns
 returns-2 c =
-    let a = c.before.before.before.args in
+    let a = c.args in
     let n : a.n ≡ entries a.m.now = search rules in
     let h : a.at < count a.m.now = omega (arith, n, laid_entries a.m.now (search rules)) in
-    ap (λ (k : ℕ). eqb k a.code) c.u16-inside.ensures.0 ∙ there_test a.m.now (search rules) a.code a.at (search rules) h
+    ap (λ (k : ℕ). eqb k a.code) c.u16_inside.ensures.0 ∙ there_test a.m.now (search rules) a.code a.at (search rules) h
 
 pub is_here_spec : {M : Type 1} → statement M
 is_here_spec =

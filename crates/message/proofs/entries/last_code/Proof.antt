@@ -9,19 +9,19 @@ use borrow.Author.Rules.{rules}
 use Rattle.message.proofs.entries.last_code.Statement.{statement}
 use Rattle.message.proofs.entries.last_code.Tie as tie
 
-returns : tie.Need-returns
+returns : tie.Need-returns-then-n-eq0
 returns c =
-    let s = c.before.before.before in
+    let s = c in
     let m = s.args.m.now in
-    let n : count m ≡ 0 = sym (laid_entries m s.requires) ∙ sym c.before.entries-of.ensures.0 ∙ c.if1.true in
+    let n : count m ≡ 0 = sym (laid_entries m s.requires) ∙ sym c.entries_of-n.ensures.0 ∙ c.if-n-eq0.true in
     none_above m s.requires 0 (λ k e. omega (arith, n, e))
 
-returns-2 : tie.Need-returns-2
+returns-2 : tie.Need-returns
 returns-2 c =
-    let s = c.before.before.before.before in
+    let s = c in
     let m = s.args.m.now in
-    let n : c.before.before.entries-of.result ≡ count m = c.before.before.entries-of.ensures.0 ∙ laid_entries m s.requires in
-    none_above m s.requires c.u16-inside.result (λ k e. go m k _ c.before.before.entries-of.result (omega (arith, n, e)) c.u16-inside.ensures.0)
+    let n : c.entries_of-n.result ≡ count m = c.entries_of-n.ensures.0 ∙ laid_entries m s.requires in
+    none_above m s.requires c.u16_inside.result (λ k e. go m k _ c.entries_of-n.result (omega (arith, n, e)) c.u16_inside.ensures.0)
   where
     go : (m : Bytes) (k r n : ℕ) → k ≡ n - 1 → r ≡ code_at m (n - 1) → code_at m k ≤ r
     go m k r n e f = rw (f, e) (omega arith)

@@ -12,25 +12,25 @@ use Rattle.message.proofs.entries.value_here.Statement.{statement}
 use Rattle.message.proofs.entries.value_here.Tie as tie
 
 -- where the value starts and ends
-runs : (c : tie.After-end-of)
-    → (c.before.u16-inside.result < c.end_of_lem.result) × (c.end_of_lem.result ≤ length c.before.before.before.args.m.now)
+runs : (c : tie.After-end_of-end)
+    → (c.u16_inside-offset.result < c.end_of-end.result) × (c.end_of-end.result ≤ length c.args.m.now)
 runs c =
-    let a = c.before.before.before.args in
+    let a = c.args in
     let n : a.n ≡ entries a.m.now = search rules in
     let h : a.k < entries a.m.now = omega (arith, n) in
     let r = laid_runs a.m.now (search rules) a.k h in
-    (omega (arith, r, c.before.u16-inside.ensures.0, c.end_of_lem.ensures), omega (arith, r, c.end_of_lem.ensures))
+    (omega (arith, r, c.u16_inside-offset.ensures.0, c.end_of-end.ensures), omega (arith, r, c.end_of-end.ensures))
 
 returns : tie.Need-returns
 unfolding value_at
 returns c =
-    let a = c.before.before.before.before.args in
+    let a = c.args in
     let n : a.n ≡ entries a.m.now = search rules in
     let h : a.k < entries a.m.now = omega (arith, n) in
-    let from = c.before.before.u16-inside.ensures.0 in
-    let at = c.before.before.u16-inside.result in
-    let end = c.before.end_of_lem.result in (
-      rw (lt-ltb _ _ h) (ap₂ (part a.m.now) from (ap₂ ◌-◌ c.before.end_of_lem.ensures from)),
+    let from = c.u16_inside-offset.ensures.0 in
+    let at = c.u16_inside-offset.result in
+    let end = c.end_of-end.result in (
+      rw (lt-ltb _ _ h) (ap₂ (part a.m.now) from (ap₂ ◌-◌ c.end_of-end.ensures from)),
       record {
         from = at;
         block = refl;

@@ -13,11 +13,11 @@ use Rattle.message.proofs.layout.u16_inside.Tie as tie
 returns : tie.Need-returns
 unfolding u16_at
 returns c =
-    let a = c.before.before.before.args in
+    let a = c.args in
     let rest = drop a.at a.m.now in
     let short : length (take (a.at + 2 - a.at) rest) ≤ 2 = omega (arith, length-take (a.at + 2 - a.at) rest) in (
-      c.read-le.ensures.0 ∙ ap (λ (k : ℕ). from_le (take k rest)) (add-sub_cancel_left a.at 2),
-      lt_of_lt_of_le c.read-le.ensures.1 (pow-le-pow_right (omega arith) short),
+      c.read_le.ensures.0 ∙ ap (λ (k : ℕ). from_le (take k rest)) (add-sub_cancel_left a.at 2),
+      lt_of_lt_of_le c.read_le.ensures.1 (pow-le-pow_right (omega arith) short),
     )
 
 pub u16_inside_spec : {M : Type 1} → statement M
