@@ -12,28 +12,25 @@ use borrow.Author.Rules.{rules}
 use Rattle.price.proofs.append_whole.Statement.{statement}
 use Rattle.price.proofs.append_whole.Tie as tie
 
-returns : tie.Need-returns
+returns : tie.Need-returns-then-kept-eq0
 unfolding shown_whole text
 returns c =
-    let k = c.before.before.before.before.before.before in
-    let w = k.before.before.before.args.w.now in
-    let none : length (drop_zeros w) ≡ 0 = omega (arith, ap length k.drop-zeros.ensures) in
-    rw (eq-eqb _ _ none) (λ n xs h. holds_more (text "0") h c.before.before.append.ensures)
+    let w = c.args.w.now in
+    let none : length (drop_zeros w) ≡ 0 = omega (arith, ap length c.drop_zeros-kept.ensures) in
+    rw (eq-eqb _ _ none) (λ n xs h. holds_more (text "0") h c.append.ensures)
 
-returns-2 : tie.Need-returns-2
+returns-2 : tie.Need-returns
 unfolding shown_whole
 returns-2 c =
-    let k = c.before.before.before.before.before in
-    let w = k.before.before.before.args.w.now in
-    let some : 0 < length (drop_zeros w) = omega (arith, ap length k.drop-zeros.ensures, c.before.before.before.before.if1.false) in
-    rw (empty_some _ some, ← k.drop-zeros.ensures) (λ n xs h. holds_more k.drop-zeros.result.now h c.before.before.append2.ensures)
+    let w = c.args.w.now in
+    let some : 0 < length (drop_zeros w) = omega (arith, ap length c.drop_zeros-kept.ensures, c.if-kept-eq0.false) in
+    rw (empty_some _ some, ← c.drop_zeros-kept.ensures) (λ n xs h. holds_more c.drop_zeros-kept.result.now h c.append-2.ensures)
 
 pub append_whole_spec : {M : Type 1} → statement M
 append_whole_spec =
     tie.close
     (tie.spec
     (λ c κs. search rules)
-    (λ c. search rules)
     (λ c κs. search rules)
     (λ c. search rules)
     returns

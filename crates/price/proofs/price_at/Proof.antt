@@ -9,8 +9,7 @@ use Rattle.price.proofs.price_at.Tie as tie
 
 returns : tie.Need-returns
 returns c =
-    let s = c.before.before.before.before.before.before in
-    lent_filled _ _ _ _ (λ k. field k (shown_price s.args.v.now)) (λ k. length_field k _) s.requires c.before.before.write-price.ensures.0
+    lent_filled _ _ _ _ (λ k. field k (shown_price c.args.v.now)) (λ k. length_field k _) c.requires c.write_price.ensures.0
 
 pub price_at_spec : {M : Type 1} → statement M
 price_at_spec =

@@ -7,16 +7,16 @@ use borrow.Author.Rules.{rules}
 use Rattle.price.proofs.sign_of.Statement.{statement}
 use Rattle.price.proofs.sign_of.Tie as tie
 
-returns : tie.Need-returns
+returns : tie.Need-returns-then-shows_minus
 unfolding shown_sign
 returns c =
-    let v = c.before.before.before.before.args.v.now in
-    let shows : shows_minus v ≡ true = sym c.before.before.shows-minus.ensures ∙ c.before.if1.true in
+    let v = c.args.v.now in
+    let shows : shows_minus v ≡ true = sym c.shows_minus.ensures ∙ c.if-shows_minus.true in
     rw shows (c.part_of.ensures.0 ∙ minus_first v shows)
 
-returns-2 : tie.Need-returns-2
+returns-2 : tie.Need-returns
 unfolding shown_sign
-returns-2 c = rw (sym c.before.before.shows-minus.ensures ∙ c.before.if1.false) c.part-of2.ensures.0
+returns-2 c = rw (sym c.shows_minus.ensures ∙ c.if-shows_minus.false) c.part_of-2.ensures.0
 
 pub sign_of_spec : {M : Type 1} → statement M
 sign_of_spec =
