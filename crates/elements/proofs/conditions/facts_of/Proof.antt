@@ -15,17 +15,16 @@ facts u p q s = record { uncleared = u; packaged = p; price = q; spread = s }
 returns : tie.Need-returns
 unfolding facts_of text
 returns c =
-    let cleared-n = c.before.before.before.value-is in
-    let packaged = c.before.before.is-package in
-    let right = facts_of c.before.before.before.before.before.before.args.m.now in
-    ap₂ (facts cleared-n.result packaged.result) c.before.quote-of.ensures c.quote-of2.ensures
+    let cleared-n = c.value_is-uncleared in
+    let packaged = c.is_package-packaged in
+    let right = facts_of c.args.m.now in
+    ap₂ (facts cleared-n.result packaged.result) c.quote_of-price.ensures c.quote_of-spread.ensures
     ∙ ap₂ (λ u p. facts u p right.price right.spread) cleared-n.ensures packaged.ensures
 
 pub facts_of_spec : {M : Type 1} → statement M
 facts_of_spec =
     tie.close
     (tie.spec
-    (λ c. search rules)
     (λ c κs. search rules)
     (λ c κs. search rules)
     (λ c κs. search rules)

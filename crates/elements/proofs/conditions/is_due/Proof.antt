@@ -7,7 +7,7 @@ use Rattle.elements.proofs.conditions.is_due.Statement.{statement}
 use Rattle.elements.proofs.conditions.is_due.Tie as tie
 
 returns : tie.Need-returns
-returns c = c.is-met.ensures ∙ ap (λ (e : Element). met e.due c.before.before.args.facts) c.before.element-of.ensures
+returns c = c.is_met.ensures ∙ ap (λ (e : Element). met e.due c.args.facts) c.element_of-due.ensures
 
 pub is_due_spec : {M : Type 1} → statement M
 is_due_spec = tie.close (tie.spec (λ c κs. search rules) (λ c κs. search rules) returns)

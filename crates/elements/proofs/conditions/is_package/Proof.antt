@@ -8,7 +8,7 @@ use Rattle.elements.proofs.conditions.is_package.Tie as tie
 
 returns : tie.Need-returns
 unfolding is_package
-returns c = c.is_true.ensures ∙ ap is_true c.before.element.ensures.0
+returns c = c.is_true.ensures ∙ ap is_true c.element.ensures.0
 
 pub is_package_spec : {M : Type 1} → statement M
 is_package_spec = tie.close (tie.spec (λ c κs. search rules) (λ c κs. search rules) returns)

@@ -9,8 +9,8 @@ use Rattle.elements.proofs.conditions.value_is.Tie as tie
 returns : tie.Need-returns
 unfolding value_is
 returns c =
-    let v = c.before.before.before.before.args.v.now in
-    c.same.ensures ∙ ap (λ x. same_bytes x v) c.before.element.ensures.0
+    let v = c.args.v.now in
+    c.same.ensures ∙ ap (λ x. same_bytes x v) c.element.ensures.0
 
 pub value_is_spec : {M : Type 1} → statement M
 value_is_spec = tie.close (tie.spec (λ c κs. search rules) (λ c κs. search rules) returns)

@@ -8,7 +8,7 @@ use Rattle.elements.proofs.forms.has_form.Tie as tie
 
 returns : tie.Need-returns
 unfolding has_form
-returns c = c.fits-form.ensures ∙ ap (λ (e : Element). fits e.form c.before.before.before.args.v.now) c.before.element-of.ensures
+returns c = c.fits_form.ensures ∙ ap (λ (e : Element). fits e.form c.args.v.now) c.element_of-form.ensures
 
 pub has_form_spec : {M : Type 1} → statement M
 has_form_spec = tie.close (tie.spec (λ c κs. search rules) (λ c κs. search rules) returns)

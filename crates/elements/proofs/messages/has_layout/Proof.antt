@@ -6,7 +6,7 @@ use Rattle.elements.proofs.messages.has_layout.Tie as tie
 
 returns : tie.Need-returns
 unfolding known how_many most_entries has_layout
-returns c = c.layout-right.ensures.0
+returns c = c.layout_right.ensures.0
 
 pub has_layout_spec : {M : Type 1} → statement M
 has_layout_spec =

@@ -7,13 +7,13 @@ use borrow.Author.Rules.{rules}
 use Rattle.elements.proofs.messages.taken_up_to.Statement.{statement}
 use Rattle.elements.proofs.messages.taken_up_to.Tie as tie
 
-returns : tie.Need-returns
+returns : tie.Need-returns-then-is_full
 unfolding element_of all_from
-returns c = full_up_to c.before.before.args.a (sym c.before.is-full.ensures ∙ c.if1.true) _ refl
+returns c = full_up_to c.args.a (sym c.is_full.ensures ∙ c.if-is_full.true) _ refl
 
-returns-2 : tie.Need-returns-2
+returns-2 : tie.Need-returns
 unfolding element_of all_from
-returns-2 c = short_up_to c.before.before.args.a _ refl
+returns-2 c = short_up_to c.args.a _ refl
 
 pub taken_up_to_spec : {M : Type 1} → statement M
 taken_up_to_spec = tie.close (tie.spec (λ c κs. search rules) returns returns-2)

@@ -5,7 +5,7 @@ use native.Mathlib.Omega.{arith}
 use borrow.Author.Tests.{not-true, not-false}
 use Rattle.octets.proofs.ChoiceLaws.{both_last, both_none}
 use Rattle.message.proofs.ReadingLaws.{there_inside, found_there}
-use Rattle.elements.specs.Messages.{rules as is-needed}
+use Rattle.elements.specs.Messages.{needs as is-needed}
 use Rattle.elements.specs.Conditions.{met, is_due}
 use Rattle.elements.specs.Forms.{has_form}
 use Rattle.elements.specs.Table.{element_of}
