@@ -8,8 +8,8 @@ use Rattle.terms.proofs.mask_amount.Tie as tie
 
 returns : tie.Need-returns
 returns c =
-    let a = c.before.before.before.args in
-    let value = c.before.kept.ensures.0 in
+    let a = c.args in
+    let value = c.kept.ensures.0 in
     (c.mask.ensures.0.0 ∙ ap (λ v. shown a.cap (amount v)) value, c.mask.ensures.0.1 ∙ ap (λ v. over a.cap (amount v)) value)
 
 pub mask_amount_spec : {M : Type 1} → statement M

@@ -8,23 +8,22 @@ use borrow.Author.Rules.{rules}
 use Rattle.terms.proofs.plus_at.Statement.{statement}
 use Rattle.terms.proofs.plus_at.Tie as tie
 
-returns : tie.Need-returns
+returns : tie.Need-returns-then-plus
 unfolding plus_text text
 returns c =
-    let a = c.before.before.before.before.before.before.before.args in
-    c.before.before.field_at.ensures ∙ ap (λ p. splice a.dst.now a.at (field mark_size (plus_text p))) (sym c.before.before.before.before.before.if1.true)
+    let a = c.args in
+    c.field_at.ensures ∙ ap (λ p. splice a.dst.now a.at (field mark_size (plus_text p))) (sym c.if-plus.true)
 
-returns-2 : tie.Need-returns-2
+returns-2 : tie.Need-returns
 unfolding plus_text field
 returns-2 c =
-    let a = c.before.before.before.before.before.before.args in
-    c.before.before.fill-at.ensures ∙ ap (λ p. splice a.dst.now a.at (field mark_size (plus_text p))) (sym c.before.before.before.before.if1.false)
+    let a = c.args in
+    c.fill_at.ensures ∙ ap (λ p. splice a.dst.now a.at (field mark_size (plus_text p))) (sym c.if-plus.false)
 
 pub plus_at_spec : {M : Type 1} → statement M
 plus_at_spec =
     tie.close
     (tie.spec
-    (λ c. search rules)
     (λ c κs. search rules)
     (λ c. search rules)
     returns

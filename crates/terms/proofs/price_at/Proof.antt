@@ -8,17 +8,17 @@ use borrow.Author.Rules.{rules}
 use Rattle.terms.proofs.price_at.Statement.{statement}
 use Rattle.terms.proofs.price_at.Tie as tie
 
-returns : tie.Need-returns
+returns : tie.Need-returns-then-v-eq0
 returns c =
-    let a = c.before.before.before.before.before.before.before.before.args in
-    let v = c.before.before.before.before.before.kept in
-    c.before.before.field_at.ensures ∙ ap (λ t. splice a.dst.now a.at (field a.n t)) (price_none _ c.before.before.before.before.if1.true ∙ ap price_text v.ensures.0)
+    let a = c.args in
+    let v = c.kept-v in
+    c.field_at.ensures ∙ ap (λ t. splice a.dst.now a.at (field a.n t)) (price_none _ c.if-v-eq0.true ∙ ap price_text v.ensures.0)
 
-returns-2 : tie.Need-returns-2
+returns-2 : tie.Need-returns
 returns-2 c =
-    let a = c.before.before.before.before.before.before.before.before.args in
-    let v = c.before.before.before.before.before.kept in
-    c.before.before.price-at.ensures ∙ ap (λ t. splice a.dst.now a.at (field a.n t)) (price_some _ c.before.before.before.before.if1.false ∙ ap price_text v.ensures.0)
+    let a = c.args in
+    let v = c.kept-v in
+    c.price_at.ensures ∙ ap (λ t. splice a.dst.now a.at (field a.n t)) (price_some _ c.if-v-eq0.false ∙ ap price_text v.ensures.0)
 
 pub price_at_spec : {M : Type 1} → statement M
 price_at_spec =

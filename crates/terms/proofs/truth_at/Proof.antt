@@ -9,27 +9,27 @@ use borrow.Author.Rules.{rules}
 use Rattle.terms.proofs.truth_at.Statement.{statement}
 use Rattle.terms.proofs.truth_at.Tie as tie
 
-returns : tie.Need-returns
+returns : tie.Need-returns-then-v-eq0
 returns c =
-    let a = c.before.before.before.before.before.before.before.before.args in
-    let v = c.before.before.before.before.before.kept in
-    c.before.before.field_at.ensures ∙ ap (λ t. splice a.dst.now a.at (field mark_size t)) (truth_none _ c.before.before.before.before.if1.true ∙ ap shown_truth v.ensures.0)
+    let a = c.args in
+    let v = c.kept-v in
+    c.field_at.ensures ∙ ap (λ t. splice a.dst.now a.at (field mark_size t)) (truth_none _ c.if-v-eq0.true ∙ ap shown_truth v.ensures.0)
 
-returns-2 : tie.Need-returns-2
+returns-2 : tie.Need-returns-then-is_true
 unfolding text
 returns-2 c =
-    let a = c.before.before.before.before.before.before.before.before.before.before.before.args in
-    let v = c.before.before.before.before.before.before.before.before.kept in
-    let true-one = sym c.before.before.before.before.before.before.is_true.ensures ∙ c.before.before.before.before.before.if2.true in
-    c.before.before.field-at2.ensures ∙ ap (λ t. splice a.dst.now a.at (field mark_size t)) (truth_shown _ _ c.before.before.before.before.before.before.before.if1.false true-one ∙ ap shown_truth v.ensures.0)
+    let a = c.args in
+    let v = c.kept-v in
+    let true-one = sym c.is_true.ensures ∙ c.if-is_true.true in
+    c.field_at-then-is_true.ensures ∙ ap (λ t. splice a.dst.now a.at (field mark_size t)) (truth_shown _ _ c.if-v-eq0.false true-one ∙ ap shown_truth v.ensures.0)
 
-returns-3 : tie.Need-returns-3
+returns-3 : tie.Need-returns
 unfolding text
 returns-3 c =
-    let a = c.before.before.before.before.before.before.before.before.before.before.before.args in
-    let v = c.before.before.before.before.before.before.before.before.kept in
-    let true-one = sym c.before.before.before.before.before.before.is_true.ensures ∙ c.before.before.before.before.before.if2.false in
-    c.before.before.field-at3.ensures ∙ ap (λ t. splice a.dst.now a.at (field mark_size t)) (truth_shown _ _ c.before.before.before.before.before.before.before.if1.false true-one ∙ ap shown_truth v.ensures.0)
+    let a = c.args in
+    let v = c.kept-v in
+    let true-one = sym c.is_true.ensures ∙ c.if-is_true.false in
+    c.field_at-2.ensures ∙ ap (λ t. splice a.dst.now a.at (field mark_size t)) (truth_shown _ _ c.if-v-eq0.false true-one ∙ ap shown_truth v.ensures.0)
 
 pub truth_at_spec : {M : Type 1} → statement M
 truth_at_spec =
@@ -40,11 +40,9 @@ truth_at_spec =
     (λ c. search rules)
     returns
     (λ c κs. search rules)
-    (λ c. search rules)
     (λ c κs. search rules)
     (λ c. search rules)
     returns-2
-    (λ c. search rules)
     (λ c κs. search rules)
     (λ c. search rules)
     returns-3)

@@ -6,10 +6,7 @@ use Rattle.terms.proofs.write_dates.Tie as tie
 
 returns : tie.Need-returns
 returns c =
-    let third = c.before.before.before.before in
-    let second = third.before.before.before.before in
-    let first = second.before.before.before.before in
-    four_written _ _ _ _ _ _ first.before.before.text_at.ensures second.before.before.text-at2.ensures third.before.before.text-at3.ensures c.before.before.text-at4.ensures
+    four_written _ _ _ _ _ _ c.text_at.ensures c.text_at-2.ensures c.text_at-3.ensures c.text_at-4.ensures
 
 pub write_dates_spec : {M : Type 1} → statement M
 write_dates_spec =

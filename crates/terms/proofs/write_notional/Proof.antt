@@ -17,14 +17,10 @@ use Rattle.terms.proofs.write_notional.Tie as tie
 
 returns : tie.Need-returns
 returns c =
-    let fourth = c.before.before.before.before in
-    let third = fourth.before.before.before.before in
-    let second = third.before.before.before.before in
-    let first = second.before.before.before.before in
-    let masked = first.before.before.before.before.mask-amount.ensures in
-    let a = first.before.before.before.before.before.before.before.args in
+    let masked = c.mask_amount-masked.ensures in
+    let a = c.args in
     let text : digits notional_size _ ≡ field notional_size (digits notional_size (shown a.cap (amount (kept notional_amount a.m.now)))) = ap (digits notional_size) masked.0 ∙ sym (field_exact notional_size _ (length_digits notional_size _)) in
-    then_written _ _ _ _ first.before.before.text_at.ensures (then_written _ _ _ _ (second.before.before.digits-at.ensures ∙ ap (splice _ _) text) (then_written _ _ _ _ (third.before.before.plus-at.ensures ∙ ap (splice _ _) (ap (λ p. field mark_size (plus_text p)) masked.1)) (then_written _ _ _ _ fourth.before.before.text-at2.ensures (last_written _ _ _ c.before.before.text-at3.ensures))))
+    then_written _ _ _ _ c.text_at.ensures (then_written _ _ _ _ (c.digits_at.ensures ∙ ap (splice _ _) text) (then_written _ _ _ _ (c.plus_at.ensures ∙ ap (splice _ _) (ap (λ p. field mark_size (plus_text p)) masked.1)) (then_written _ _ _ _ c.text_at-2.ensures (last_written _ _ _ c.text_at-3.ensures))))
 
 pub write_notional_spec : {M : Type 1} → statement M
 write_notional_spec =

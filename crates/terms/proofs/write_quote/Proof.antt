@@ -6,9 +6,7 @@ use Rattle.terms.proofs.write_quote.Tie as tie
 
 returns : tie.Need-returns
 returns c =
-    let second = c.before.before.before.before in
-    let first = second.before.before.before.before in
-    then_written _ _ _ _ first.before.before.price-at.ensures (then_written _ _ _ _ second.before.before.text_at.ensures (last_written _ _ _ c.before.before.text-at2.ensures))
+    then_written _ _ _ _ c.price_at.ensures (then_written _ _ _ _ c.text_at.ensures (last_written _ _ _ c.text_at-2.ensures))
 
 pub write_quote_spec : {M : Type 1} → statement M
 write_quote_spec =

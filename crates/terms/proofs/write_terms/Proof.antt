@@ -8,28 +8,20 @@ use Rattle.terms.proofs.write_terms.Tie as tie
 
 returns : tie.Need-returns
 returns c =
-    let fourth = c.before.before.before.before in
-    let third = fourth.before.before.before.before in
-    let second = third.before.before.before.before in
-    let first = second.before.before.before.before in
-    let start = first.before.before.before.before.before.before.before in (
+    let start = c in (
       terms_written _ _ _ start.requires.0
-          (then_group _ _ _ _ first.before.before.write-dates.ensures
-          (then_group _ _ _ _ second.before.before.write-truths.ensures
-          (then_group _ _ _ _ third.before.before.write-quote.ensures
-          (then_group _ _ _ _ fourth.before.before.write-notional.ensures
-          c.before.before.write-quote2.ensures)))),
+          (then_group _ _ _ _ c.write_dates.ensures
+          (then_group _ _ _ _ c.write_truths.ensures
+          (then_group _ _ _ _ c.write_quote.ensures
+          (then_group _ _ _ _ c.write_notional.ensures
+          c.write_quote-2.ensures)))),
       terms_laws,
     )
 
 -- the facts lie further back than the search looks
-quote-requires : tie.Need-write-quote-requires-2
+quote-requires : tie.Need-write_quote-requires-2
 quote-requires c κs =
-    let notional = c.before.before.before in
-    let price = notional.before.before.before.before in
-    let truths = price.before.before.before.before in
-    let dates = truths.before.before.before.before in
-    (search rules, dates.before.before.facts-of.ensures)
+    (search rules, c.facts_of-facts.ensures)
 
 pub write_terms_spec : {M : Type 1} → statement M
 write_terms_spec =
