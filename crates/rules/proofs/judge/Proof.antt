@@ -1,7 +1,6 @@
 -- `rules::judge` meets its contract. Assumes nothing.
 use Prim.Native.Nat.{ℕ}
 use mathlib.Core.Path.{◌≡◌, refl, sym, ap, ◌∙◌}
-use borrow.Author.Tests.{not-true, not-false}
 use Rattle.octets.specs.Bytes.{Bytes}
 use Rattle.elements.specs.Messages.{known, most_entries, has_layout}
 use Rattle.rules.specs.Verdicts.{layout_wrong}
@@ -18,24 +17,24 @@ use Rattle.rules.proofs.judge.Tie as tie
 with_verdict : (longest : ℕ) (m : Bytes) (r : Judged) → r ≡ judged longest m → (verdict_of r ≡ verdict longest m) × (r ≡ judged longest m)
 with_verdict longest m r e = (ap verdict_of e ∙ judged_verdict longest m, e)
 
-returns : tie.Need-returns
+returns : tie.Need-returns-then-not-has_layout
 unfolding judged verdict rules_for first_broken
-returns c = with_verdict _ _ _ (rw (sym c.before.has-layout.ensures ∙ not-true _ c.if1.true) (sym (refuses layout_wrong 0 (action_in c.before.before.before.args.m.now) refl)))
+returns c = with_verdict _ _ _ (rw (sym c.has_layout.ensures ∙ c.if-not-has_layout.true) (sym (refuses layout_wrong 0 (action_in c.args.m.now) refl)))
 
-judge-action-requires : tie.Need-judge-action-requires
+judge-action-requires : tie.Need-judge_action-requires
 unfolding has_layout known
 judge-action-requires c κs =
     record {
-      longest = c.before.before.before.args.longest;
+      longest = c.args.longest;
       most = most_entries;
       known = known;
-      right = sym c.before.has-layout.ensures ∙ not-false _ c.if1.false;
+      right = sym c.has_layout.ensures ∙ c.if-not-has_layout.false;
       none = refl;
     }
 
-returns-2 : tie.Need-returns-2
+returns-2 : tie.Need-returns
 unfolding judged verdict rules_for judged_from from_rule first_broken
-returns-2 c = with_verdict _ _ _ (rw (sym c.before.before.has-layout.ensures ∙ not-false _ c.before.if1.false) c.judge-action.ensures)
+returns-2 c = with_verdict _ _ _ (rw (sym c.has_layout.ensures ∙ c.if-not-has_layout.false) c.judge_action.ensures)
 
 pub judge_spec : {M : Type 1} → statement M
 judge_spec = tie.close (tie.spec (λ c κs. search rules) returns judge-action-requires returns-2)

@@ -8,18 +8,18 @@ use borrow.Author.Rules.{rules}
 use Rattle.rules.proofs.judge_action.Statement.{statement}
 use Rattle.rules.proofs.judge_action.Tie as tie
 
-read : (c : tie.After-read-action) → action_in c.before.before.before.args.m.now ≡ c.read-action.result
-read c = sym (c.read-action.ensures ∙ ap action_of c.before.element.ensures.0)
+read : (c : tie.After-read_action-read) → action_in c.args.m.now ≡ c.read_action-read.result
+read c = sym (c.read_action-read.ensures ∙ ap action_of c.element.ensures.0)
 
-returns : tie.Need-returns
+returns : tie.Need-returns-in_default
 unfolding judged_from from_rule first_broken
 returns c =
-    let ensured = c.before.enum_told.given.1 in
-    rw (read c.before.before.before ∙ ensured) (c.judged-by.ensures ∙ ap (judged_by action_wrong) ensured)
+    let ensured = c.in_default.is in
+    rw (read c.before.before ∙ ensured) (c.judged_by.ensures ∙ ap (judged_by action_wrong) ensured)
 
-returns-2 : tie.Need-returns-2
+returns-2 : tie.Need-returns
 unfolding judged_from rules_of from_rule first_broken
-returns-2 c = rw (read c.before.before.before.before ∙ c.before.before.read.given.1) c.judge-needed.ensures
+returns-2 c = rw (read c.before.before ∙ c.in-Value.is) c.judge_needed.ensures
 
 pub judge_action_spec : {M : Type 1} → statement M
 judge_action_spec =

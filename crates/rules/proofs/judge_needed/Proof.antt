@@ -9,13 +9,13 @@ use borrow.Author.Rules.{rules}
 use Rattle.rules.proofs.judge_needed.Statement.{statement}
 use Rattle.rules.proofs.judge_needed.Tie as tie
 
-returns : tie.Need-returns
+returns : tie.Need-returns-in_default
 unfolding rules_of finding_of
-returns c = c.judged-by.ensures ∙ check_stops element_missing _ _ refl c.before.before.before.lowest-fault.ensures c.before.enum_told.given.1
+returns c = c.judged_by.ensures ∙ check_stops element_missing _ _ refl c.lowest_fault-needed.ensures c.in_default.is
 
-returns-2 : tie.Need-returns-2
+returns-2 : tie.Need-returns
 unfolding rules_of finding_of from_rule after_rule
-returns-2 c = c.judge-taken.ensures ∙ check_on element_missing _ _ _ refl c.before.before.before.before.lowest-fault.ensures c.before.before.needed.given.1
+returns-2 c = c.judge_taken.ensures ∙ check_on element_missing _ _ _ refl c.lowest_fault-needed.ensures c.in-Value.is
 
 pub judge_needed_spec : {M : Type 1} → statement M
 judge_needed_spec =

@@ -6,13 +6,13 @@ use borrow.Author.Rules.{rules}
 use Rattle.rules.proofs.judge_order.Statement.{statement}
 use Rattle.rules.proofs.judge_order.Tie as tie
 
-returns : tie.Need-returns
+returns : tie.Need-returns-then-is_out_of_order
 unfolding judged_from rules_of from_rule first_broken
-returns c = rw (sym c.before.is-out-of-order.ensures ∙ c.if1.true)
+returns c = rw (sym c.is_out_of_order.ensures ∙ c.if-is_out_of_order.true)
 
-returns-2 : tie.Need-returns-2
+returns-2 : tie.Need-returns
 unfolding judged_from rules_of from_rule first_broken
-returns-2 c = rw (sym c.before.is-out-of-order.ensures ∙ c.if1.false)
+returns-2 c = rw (sym c.is_out_of_order.ensures ∙ c.if-is_out_of_order.false)
 
 pub judge_order_spec : {M : Type 1} → statement M
 judge_order_spec = tie.close (tie.spec (λ c κs. search rules) returns returns-2)

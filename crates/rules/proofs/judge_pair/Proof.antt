@@ -1,6 +1,5 @@
 -- `rules::judge_pair` meets its contract. Assumes nothing.
 use mathlib.Core.Path.{◌≡◌, sym, ap, ◌∙◌}
-use borrow.Author.Tests.{not-true, not-false}
 use Rattle.message.specs.Values.{value}
 use Rattle.elements.specs.Codes.{event_type}
 use Rattle.actions.specs.Matrix.{pair_allowed}
@@ -10,16 +9,16 @@ use borrow.Author.Rules.{rules}
 use Rattle.rules.proofs.judge_pair.Statement.{statement}
 use Rattle.rules.proofs.judge_pair.Tie as tie
 
-pair : (c : tie.After-is-pair) → c.is-pair.result ≡ pair_allowed c.before.before.before.args.action (value event_type c.before.before.before.args.m.now)
-pair c = c.is-pair.ensures.0 ∙ ap (pair_allowed _) c.before.element.ensures.0
+pair : (c : tie.After-is_pair) → c.is_pair.result ≡ pair_allowed c.args.action (value event_type c.args.m.now)
+pair c = c.is_pair.ensures.0 ∙ ap (pair_allowed _) c.element.ensures.0
 
-returns : tie.Need-returns
+returns : tie.Need-returns-then-not-is_pair
 unfolding judged_from rules_of from_rule first_broken
-returns c = rw (sym (pair c.before) ∙ not-true _ c.if1.true)
+returns c = rw (sym (pair c.before) ∙ c.if-not-is_pair.true)
 
-returns-2 : tie.Need-returns-2
+returns-2 : tie.Need-returns
 unfolding judged_from rules_of from_rule first_broken
-returns-2 c = rw (sym (pair c.before.before) ∙ not-false _ c.before.if1.false) c.judge-due.ensures
+returns-2 c = rw (sym (pair c.before.before) ∙ c.if-not-is_pair.false) c.judge_due.ensures
 
 pub judge_pair_spec : {M : Type 1} → statement M
 judge_pair_spec =

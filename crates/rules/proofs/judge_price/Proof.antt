@@ -6,13 +6,13 @@ use borrow.Author.Rules.{rules}
 use Rattle.rules.proofs.judge_price.Statement.{statement}
 use Rattle.rules.proofs.judge_price.Tie as tie
 
-returns : tie.Need-returns
+returns : tie.Need-returns-then-has_long_price
 unfolding judged_from rules_of from_rule first_broken
-returns c = rw (sym c.before.has-long-price.ensures ∙ c.if1.true)
+returns c = rw (sym c.has_long_price.ensures ∙ c.if-has_long_price.true)
 
-returns-2 : tie.Need-returns-2
+returns-2 : tie.Need-returns
 unfolding judged_from rules_of from_rule first_broken
-returns-2 c = rw (sym c.before.before.has-long-price.ensures ∙ c.before.if1.false) c.judge-order.ensures
+returns-2 c = rw (sym c.has_long_price.ensures ∙ c.if-has_long_price.false) c.judge_order.ensures
 
 pub judge_price_spec : {M : Type 1} → statement M
 judge_price_spec = tie.close (tie.spec (λ c κs. search rules) returns (λ c κs. search rules) returns-2)

@@ -9,13 +9,13 @@ use borrow.Author.Rules.{rules}
 use Rattle.rules.proofs.judge_taken.Statement.{statement}
 use Rattle.rules.proofs.judge_taken.Tie as tie
 
-returns : tie.Need-returns
+returns : tie.Need-returns-in_default
 unfolding rules_of finding_of
-returns c = c.judged-by.ensures ∙ check_stops element_not_taken _ _ refl c.before.before.before.lowest-not-taken.ensures c.before.enum_told.given.1
+returns c = c.judged_by.ensures ∙ check_stops element_not_taken _ _ refl c.lowest_not_taken-taken.ensures c.in_default.is
 
-returns-2 : tie.Need-returns-2
+returns-2 : tie.Need-returns
 unfolding rules_of finding_of from_rule after_rule
-returns-2 c = c.judge-forms.ensures ∙ check_on element_not_taken _ _ _ refl c.before.before.before.before.lowest-not-taken.ensures c.before.before.taken.given.1
+returns-2 c = c.judge_forms.ensures ∙ check_on element_not_taken _ _ _ refl c.lowest_not_taken-taken.ensures c.in-Value.is
 
 pub judge_taken_spec : {M : Type 1} → statement M
 judge_taken_spec =

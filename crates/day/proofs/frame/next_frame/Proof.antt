@@ -7,22 +7,22 @@ use Rattle.day.proofs.FrameLaws.{no_length, not_whole, too_long, a_message}
 use Rattle.day.proofs.frame.next_frame.Statement.{statement}
 use Rattle.day.proofs.frame.next_frame.Tie as tie
 
-returns : tie.Need-returns
+returns : tie.Need-returns-then-input-lt-LENGTH_SIZE
 returns c = (sym (no_length _ _ (omega arith)), omega arith)
 
-returns-2 : tie.Need-returns-2
+returns-2 : tie.Need-returns-then-input-n
 returns-2 c =
-    let r = c.before.read_at.ensures in
+    let r = c.read_at-n.ensures in
     (sym (not_whole _ _ (omega arith) (omega (arith, r.0))), omega arith)
 
-returns-3 : tie.Need-returns-3
+returns-3 : tie.Need-returns-then-longest-n
 returns-3 c =
-    let n = c.before.before.read_at.ensures.0 in
+    let n = c.read_at-n.ensures.0 in
     (ap Overlong n ∙ sym (too_long _ _ (omega arith) (omega (arith, n)) (omega (arith, n))), omega arith)
 
-returns-4 : tie.Need-returns-4
+returns-4 : tie.Need-returns
 returns-4 c =
-    let n = c.before.before.read_at.ensures.0 in
+    let n = c.read_at-n.ensures.0 in
     (ap Message n ∙ sym (a_message _ _ (omega arith) (omega (arith, n)) (omega (arith, n))), omega arith)
 
 pub next_frame_spec : {M : Type 1} → statement M

@@ -9,29 +9,29 @@ use Rattle.day.proofs.ReportLaws.{digits_more, digits_stop, digits_end}
 use Rattle.day.proofs.report.digit_count.Statement.{statement}
 use Rattle.day.proofs.report.digit_count.Tie as tie
 
-abbrev invariant-loop : tie.invariant-loop
+abbrev invariant-loop : tie.invariant-loop-count
 invariant-loop n rest₀ count₀ rest count = (count ≤ most_digits) × (digits_from (most_digits - count) count rest ≡ digit_count n)
 
-abbrev decreases-loop : tie.decreases-loop
+abbrev decreases-loop : tie.decreases-loop-count
 decreases-loop n rest₀ count₀ rest count = most_digits - count
 
-loop-holds : tie.Need-loop-init invariant-loop decreases-loop
+loop-holds : tie.Need-loop-count-init invariant-loop decreases-loop
 unfolding digit_count
 loop-holds c = (search rules, refl)
 
-returns : tie.Need-returns invariant-loop decreases-loop
+returns : tie.Need-returns-then-rest-lt10 invariant-loop decreases-loop
 returns c =
-    let l = c.before.before.loop in
+    let l = c.loop-count in
     ((sym (digits_stop l.count most_digits l.rest (omega arith) (omega arith)) ∙ l.invariant.1, omega arith), decimal_fewest)
 
-loop-again : tie.Need-loop-preserved invariant-loop decreases-loop
+loop-again : tie.Need-loop-count-preserved invariant-loop decreases-loop
 loop-again c =
-    let l = c.before.before.loop in
+    let l = c.loop-count in
     (omega arith, sym (digits_more l.count most_digits l.rest (omega arith) (omega arith)) ∙ l.invariant.1)
 
-returns-2 : tie.Need-returns-2 invariant-loop decreases-loop
+returns-2 : tie.Need-returns invariant-loop decreases-loop
 returns-2 c =
-    let l = c.before.loop in
+    let l = c.loop-count in
     ((sym (digits_end l.count most_digits l.rest (omega arith)) ∙ l.invariant.1, omega arith), decimal_fewest)
 
 pub digit_count_spec : {M : Type 1} → statement M

@@ -15,13 +15,10 @@ use Rattle.day.proofs.report.put_number.Tie as tie
 returns : tie.Need-returns
 unfolding decimal
 returns c =
-    let f = c.before.before in
-    let p = f.before.before.before.before in
-    let k = p.before.before in
-    let a = k.before.before.args in
-    let shown : digits k.digit-count.result a.n ≡ decimal a.n = ap (λ (j : ℕ). digits j a.n) k.digit-count.ensures.0.0 in (
-      subst (λ (ys : Bytes). Put a.out.now a.at (ys ++ (a.end ∷ [])) f.fill-at.new.0 (a.at + k.digit-count.result + 1)) shown
-          (put_end a.out.now _ a.at _ a.end (length_digits _ a.n) (omega arith) p.digits-at.ensures f.fill-at.ensures),
+    let a = c.args in
+    let shown : digits c.digit_count-count.result a.n ≡ decimal a.n = ap (λ (j : ℕ). digits j a.n) c.digit_count-count.ensures.0.0 in (
+      subst (λ (ys : Bytes). Put a.out.now a.at (ys ++ (a.end ∷ [])) c.fill_at.new.dst (a.at + c.digit_count-count.result + 1)) shown
+          (put_end a.out.now _ a.at _ a.end (length_digits _ a.n) (omega arith) c.digits_at.ensures c.fill_at.ensures),
       omega arith,
     )
 

@@ -8,10 +8,8 @@ use Rattle.day.proofs.report.put_text.Tie as tie
 
 returns : tie.Need-returns
 returns c =
-    let f = c.before.before in
-    let p = f.before.before.before.before in
-    let a = p.before.before.before.before.args in
-    put_end a.out.now a.s.now a.at _ a.end refl (omega arith) p.copy_at.ensures f.fill-at.ensures
+    let a = c.args in
+    put_end a.out.now a.s.now a.at _ a.end refl (omega arith) c.copy_at.ensures c.fill_at.ensures
 
 pub put_text_spec : {M : Type 1} → statement M
 put_text_spec =

@@ -5,29 +5,23 @@ use Rattle.octets.specs.Text.{text}
 use Rattle.day.proofs.report.put_word.Statement.{statement}
 use Rattle.day.proofs.report.put_word.Tie as tie
 
-returns : tie.Need-returns
+returns : tie.Need-returns-then-is_cut
 unfolding text
 returns c =
-    let p = c.before.before in
-    let t = p.before.before.before in
-    (rw t.if1.true p.put-text.ensures, omega (arith, p.put-text.ensures.place))
+    (rw c.if-is_cut.true c.put_text.ensures, omega (arith, c.put_text.ensures.place))
 
-returns-2 : tie.Need-returns-2
+returns-2 : tie.Need-returns
 unfolding text
 returns-2 c =
-    let p = c.before.before in
-    let t = p.before.before.before in
-    (rw t.if1.false p.put-text2.ensures, omega (arith, p.put-text2.ensures.place))
+    (rw c.if-is_cut.false c.put_text-2.ensures, omega (arith, c.put_text-2.ensures.place))
 
 pub put_word_spec : {M : Type 1} → statement M
 put_word_spec =
     tie.close
     (tie.spec
-    (λ c. search rules)
     (λ c κs. search rules)
     (λ c. search rules)
     returns
-    (λ c. search rules)
     (λ c κs. search rules)
     (λ c. search rules)
     returns-2)

@@ -9,10 +9,8 @@ use Rattle.day.proofs.report.write_last.Tie as tie
 returns : tie.Need-returns
 unfolding line last_line
 returns c =
-    let w3 = c.before.before in
-    let w2 = w3.before.before.before.before in
-    let w1 = w2.before.before.before.before in (
-      put_three _ _ _ w1.put_word.ensures.0 w2.put-number.ensures.0 w3.put-number2.ensures.0 (omega arith),
+    let w1 = c in (
+      put_three _ _ _ w1.put_word-second.ensures.0 c.put_number-third.ensures.0 c.put_number.ensures.0 (omega arith),
       omega arith,
     )
 

@@ -9,11 +9,8 @@ use Rattle.day.proofs.report.write_line.Tie as tie
 returns : tie.Need-returns
 unfolding line report_line
 returns c =
-    let w4 = c.before.before in
-    let w3 = w4.before.before.before.before in
-    let w2 = w3.before.before.before.before in
-    let w1 = w2.before.before.before.before in (
-      put_four _ _ _ _ w1.put-number.ensures.0 w2.put-number2.ensures.0 w3.put-number3.ensures.0 w4.put-number4.ensures.0 (omega arith),
+    let w1 = c in (
+      put_four _ _ _ _ w1.put_number-second.ensures.0 c.put_number-third.ensures.0 c.put_number-fourth.ensures.0 c.put_number.ensures.0 (omega arith),
       omega arith,
     )
 

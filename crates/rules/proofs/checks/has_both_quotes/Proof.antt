@@ -23,11 +23,11 @@ both_from : (c : tie.Start) (b : Bool) → c.args.facts.price.there ≡ b → bo
 unfolding has_both_quotes
 both_from c b e = ap (λ p. both p (is_quoted package_spread c.args.m.now)) (sym e ∙ priced c)
 
-returns : tie.Need-returns
-returns c = spread c.before ∙ both_from c.before true c.if1.true
+returns : tie.Need-returns-then-facts
+returns c = spread c.before ∙ both_from c.before true c.if-facts.true
 
-returns-2 : tie.Need-returns-2
-returns-2 c = c.if1.false ∙ both_from c.before false c.if1.false
+returns-2 : tie.Need-returns-else-facts
+returns-2 c = c.if-facts.false ∙ both_from c.before false c.if-facts.false
 
 pub has_both_quotes_spec : {M : Type 1} → statement M
 has_both_quotes_spec = tie.close (tie.spec returns returns-2)

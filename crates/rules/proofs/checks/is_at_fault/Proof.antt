@@ -2,7 +2,6 @@
 use mathlib.Core.Path.{sym, ap, ◌∙◌, subst}
 use mathlib.Core.Bool.{not}
 use native.Mathlib.Omega.{arith}
-use borrow.Author.Tests.{not-true, not-false}
 use Rattle.octets.proofs.ChoiceLaws.{both_last, both_none}
 use Rattle.message.proofs.ReadingLaws.{there_inside, found_there}
 use Rattle.elements.specs.Messages.{needs as is-needed}
@@ -14,42 +13,41 @@ use borrow.Author.Rules.{rules}
 use Rattle.rules.proofs.checks.is_at_fault.Statement.{statement}
 use Rattle.rules.proofs.checks.is_at_fault.Tie as tie
 
-returns : tie.Need-returns
-returns c = rw c.before.enum_told.given.1 (sym (both_none (is-needed c.before.before.before.before.args.action c.before.before.before.before.args.code) _ (ap not (sym c.before.before.before.before.requires.1.1.1.1.0 ∙ c.if1.true))))
+returns : tie.Need-returns-then-here
+returns c = rw c.in-Needed.is (sym (both_none (is-needed c.args.action c.args.code) _ (ap not (sym c.requires.1.1.1.1.0 ∙ c.if-here.true))))
 
-returns-2 : tie.Need-returns-2
-returns-2 c = rw (c.before.enum-told2.given.1, sym c.before.before.before.before.requires.1.1.1.1.0 ∙ not-true _ c.if2.true)
+returns-2 : tie.Need-returns-then-not-here
+returns-2 c = rw (c.in-Taken.is, sym c.requires.1.1.1.1.0 ∙ c.if-not-here.true)
 
-returns-3 : tie.Need-returns-3
-returns-3 c = rw (c.before.enum-told3.given.1, sym c.before.before.before.before.requires.1.1.1.1.0 ∙ not-true _ c.if3.true)
+returns-3 : tie.Need-returns-then-not-here-2
+returns-3 c = rw (c.in-Formed.is, sym c.requires.1.1.1.1.0 ∙ c.if-not-here-2.true)
 
-returns-4 : tie.Need-returns-4
-returns-4 c = rw c.before.enum-told4.given.1 (sym (both_none (is_due c.before.before.before.before.args.code c.before.before.before.before.args.m.now) _ (ap not (sym c.before.before.before.before.requires.1.1.1.1.0 ∙ c.if4.true))))
+returns-4 : tie.Need-returns-then-here-2
+returns-4 c = rw c.in-Due.is (sym (both_none (is_due c.args.code c.args.m.now) _ (ap not (sym c.requires.1.1.1.1.0 ∙ c.if-here-2.true))))
 
-returns-5 : tie.Need-returns-5
-returns-5 c = rw c.before.before.enum_told.given.1 (c.is-needed.ensures ∙ sym (both_last _ _ (ap not (sym c.before.before.before.before.before.requires.1.1.1.1.0 ∙ c.before.if1.false))))
+returns-5 : tie.Need-returns-else-here
+returns-5 c = rw c.in-Needed.is (c.is_needed.ensures ∙ sym (both_last _ _ (ap not (sym c.requires.1.1.1.1.0 ∙ c.if-here.false))))
 
-returns-6 : tie.Need-returns-6
-returns-6 c = rw (c.before.before.enum-told2.given.1, sym c.before.before.before.before.before.requires.1.1.1.1.0 ∙ not-false _ c.before.if2.false) (ap not c.is-taken.ensures)
+returns-6 : tie.Need-returns-else-not-here
+returns-6 c = rw (c.in-Taken.is, sym c.requires.1.1.1.1.0 ∙ c.if-not-here.false) (ap not c.is_taken.ensures)
 
-returns-7 : tie.Need-returns-7
+returns-7 : tie.Need-returns-else-not-here-2
 returns-7 c =
-    let p = c.before.before.before.before.before.before.requires in
-    let there = sym p.1.1.1.1.0 ∙ not-false _ c.before.before.if3.false in
-    rw (c.before.before.before.enum-told3.given.1, there) (ap not (c.has-form.ensures ∙ ap (has_form _) (c.before.value-here.ensures.0 ∙ sym (found_there _ p.1.1.0 _ _ p.1.1.1.0 there))))
+    let p = c.requires in
+    let there = sym p.1.1.1.1.0 ∙ c.if-not-here-2.false in
+    rw (c.in-Formed.is, there) (ap not (c.has_form.ensures ∙ ap (has_form _) (c.value_here.ensures.0 ∙ sym (found_there _ p.1.1.0 _ _ p.1.1.1.0 there))))
 
-returns-8 : tie.Need-returns-8
+returns-8 : tie.Need-returns-else-here-2
 unfolding is_due
 returns-8 c =
-    let s = c.before.before.before.before.before in
-    let due = c.before.before.enum-told4.given.1 in
-    let facts = subst (λ k. FactsFor k s.args.facts s.args.m.now) due s.requires.1.1.1.1.1 in
-    rw due (c.is-due.ensures ∙ ap (met (element_of s.args.code).due) facts ∙ sym (both_last _ _ (ap not (sym s.requires.1.1.1.1.0 ∙ c.before.if4.false))))
+    let due = c.in-Due.is in
+    let facts = subst (λ k. FactsFor k c.args.facts c.args.m.now) due c.requires.1.1.1.1.1 in
+    rw due (c.is_due.ensures ∙ ap (met (element_of c.args.code).due) facts ∙ sym (both_last _ _ (ap not (sym c.requires.1.1.1.1.0 ∙ c.if-here-2.false))))
 
-value-here-requires : tie.Need-value-here-requires
+value-here-requires : tie.Need-value_here-requires
 value-here-requires c κs =
-    let p = c.before.before.before.before.requires in
-    let inside = there_inside _ p.1.1.0 _ _ p.1.1.1.0 (sym p.1.1.1.1.0 ∙ not-false _ c.if3.false) in
+    let p = c.requires in
+    let inside = there_inside _ p.1.1.0 _ _ p.1.1.1.0 (sym p.1.1.1.1.0 ∙ c.if-not-here-2.false) in
     (p.0, (p.1.0, (p.1.1.0, omega (arith, inside, p.0))))
 
 pub is_at_fault_spec : {M : Type 1} → statement M

@@ -12,22 +12,22 @@ use Rattle.rules.proofs.checks.is_longer.Statement.{statement}
 use Rattle.rules.proofs.checks.is_longer.Tie as tie
 
 -- the number without its minus
-ensured : (c : tie.After-unsigned-of) → c.Unsigned-of.result.now ≡ unsigned_of (value c.before.before.before.args.code c.before.before.before.args.m.now)
-ensured c = c.Unsigned-of.ensures ∙ ap unsigned_of c.before.element.ensures.0
+ensured : (c : tie.After-unsigned_of-v) → c.unsigned_of-v.result.now ≡ unsigned_of (value c.args.code c.args.m.now)
+ensured c = c.unsigned_of-v.ensures ∙ ap unsigned_of c.element.ensures.0
 
-returns : tie.Need-returns
+returns : tie.Need-returns-then-most_digits-whole
 unfolding longer
 returns c =
-    let most = c.before.before.before.before.before.before.args.most-digits in
-    let more : most < length c.before.before.whole_of.result.now + length c.before.decimals-of.result.now = omega arith in
-    rw (← ensured c.before.before.before, ← c.before.before.whole_of.ensures, ← c.before.decimals-of.ensures, lt-ltb _ _ more)
+    let most = c.args.most_digits in
+    let more : most < length c.whole_of-whole.result.now + length c.decimals_of-decimals.result.now = omega arith in
+    rw (← ensured c.before.before.before, ← c.whole_of-whole.ensures, ← c.decimals_of-decimals.ensures, lt-ltb _ _ more)
 
-returns-2 : tie.Need-returns-2
+returns-2 : tie.Need-returns
 unfolding longer
 returns-2 c =
-    let most = c.before.before.before.before.before.before.args.most-digits in
-    let within : length c.before.before.whole_of.result.now + length c.before.decimals-of.result.now ≤ most = omega arith in
-    rw (← ensured c.before.before.before, ← c.before.before.whole_of.ensures, ← c.before.decimals-of.ensures, le-ltb _ _ within)
+    let most = c.args.most_digits in
+    let within : length c.whole_of-whole.result.now + length c.decimals_of-decimals.result.now ≤ most = omega arith in
+    rw (← ensured c.before.before.before, ← c.whole_of-whole.ensures, ← c.decimals_of-decimals.ensures, le-ltb _ _ within)
 
 pub is_longer_spec : {M : Type 1} → statement M
 is_longer_spec =

@@ -27,10 +27,10 @@ none a m last n above taken h = none_at_fault (at_fault Taken a m) (λ code l u.
     by code l true e = both_none (is_there code m) (not (takes a code)) (ap not (taken code l (leb-true code n e)))
     by code l false e = rw (above code (omega (arith, leb-false code n e)))
 
-returns : tie.Need-returns
+returns : tie.Need-returns-then-last_code-taken_up_to
 returns c =
-    let a = c.before.before.before.before.args in
-    sym (ap (answer_of a.action) (none a.action a.m.now _ _ c.before.before.last_code.ensures c.before.taken-up-to.ensures c.if1.true))
+    let a = c.args in
+    sym (ap (answer_of a.action) (none a.action a.m.now _ _ c.last_code.ensures c.taken_up_to.ensures c.if-last_code-taken_up_to.true))
 
 pub lowest_not_taken_spec : {M : Type 1} → statement M
 lowest_not_taken_spec = tie.close (tie.spec (λ c κs. search rules) (λ c κs. search rules) (λ c. search rules) returns (λ c κs. search rules) (λ c. search rules))
