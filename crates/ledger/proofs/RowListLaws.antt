@@ -187,6 +187,8 @@ count_own p rs y t one = by (any_row p rs) refl (rw t at (count_put p p rs y))
 pub one_place : (p : Bytes → Bool) (f : ℕ → Bytes) (d k i j : ℕ) → count p (list_from f k d) ≤ 1 → i < j → j < d → p (f (k + i)) ≡ true → p (f (k + j)) ≡ true → ⊥
 unfolding list_from count
 one_place p f zero k i j one h b e g = omega arith
+one_place p f (suc d) k zero zero one h b e g = omega arith
+one_place p f (suc d) k (suc i) zero one h b e g = omega arith
 one_place p f (suc d) k zero (suc j) one h b e g =
     let at : f (k + suc j) ≡ f (suc k + j) = ap f (omega arith) in
     let some : any_row p (list_from f (suc k) d) ≡ true = any_at p f (suc k) d j (omega arith) (sym (ap p at) ∙ g) in

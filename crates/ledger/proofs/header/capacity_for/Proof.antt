@@ -4,15 +4,15 @@ use Rattle.ledger.specs.Header.{capacity_for}
 use Rattle.ledger.proofs.header.capacity_for.Statement.{statement}
 use Rattle.ledger.proofs.header.capacity_for.Tie as tie
 
-returns : tie.Need-returns
+returns : tie.Need-returns-then-n-lt-HEADER_SIZE
 unfolding capacity_for
 returns c = omega arith
 
-returns-2 : tie.Need-returns-2
+returns-2 : tie.Need-returns-then-room-most
 unfolding capacity_for
 returns-2 c = omega arith
 
-returns-3 : tie.Need-returns-3
+returns-3 : tie.Need-returns-else-room-most
 unfolding capacity_for
 returns-3 c = omega arith
 

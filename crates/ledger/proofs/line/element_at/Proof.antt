@@ -8,8 +8,8 @@ use Rattle.ledger.proofs.line.element_at.Tie as tie
 
 returns : tie.Need-returns
 returns c =
-    let a = c.before.before.before.before.before.before.before.args in
-    c.before.before.field_at.ensures ∙ ap (λ v. splice a.dst.now a.at (field a.n v)) c.before.before.before.element.ensures.0
+    let a = c.args in
+    c.field_at.ensures ∙ ap (λ v. splice a.dst.now a.at (field a.n v)) c.element.ensures.0
 
 pub element_at_spec : {M : Type 1} → statement M
 element_at_spec = tie.close (tie.spec (λ c κs. search rules) (λ c κs. search rules) (λ c. search rules) returns)

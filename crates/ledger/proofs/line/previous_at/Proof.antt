@@ -9,14 +9,14 @@ use borrow.Author.Rules.{rules}
 use Rattle.ledger.proofs.line.previous_at.Statement.{statement}
 use Rattle.ledger.proofs.line.previous_at.Tie as tie
 
-returns : tie.Need-returns
+returns : tie.Need-returns-then-is_new
 unfolding field
-returns c = rw (sym c.before.before.before.before.before.is-new.ensures ∙ c.before.before.before.before.if1.true) c.before.before.fill-at.ensures
+returns c = rw (sym c.is_new.ensures ∙ c.if-is_new.true) c.fill_at.ensures
 
-returns-2 : tie.Need-returns-2
+returns-2 : tie.Need-returns
 returns-2 c =
-    rw (sym c.before.before.before.before.before.is-new.ensures ∙ c.before.before.before.before.if1.false)
-    (c.before.before.digits-at.ensures ∙ ap (splice _ _) (sym (field_exact identifier_digits _ (length_digits identifier_digits _))))
+    rw (sym c.is_new.ensures ∙ c.if-is_new.false)
+    (c.digits_at.ensures ∙ ap (splice _ _) (sym (field_exact identifier_digits _ (length_digits identifier_digits _))))
 
 pub previous_at_spec : {M : Type 1} → statement M
 previous_at_spec =

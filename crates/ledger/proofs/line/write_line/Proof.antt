@@ -11,17 +11,17 @@ use Rattle.ledger.proofs.line.write_line.Statement.{statement}
 use Rattle.ledger.proofs.line.write_line.Tie as tie
 
 -- the lent part is a line long
-lent : (c : tie.After-write-fields-arg) → length (take line_size c.before.before.before.before.args.tape.now) ≡ line_size
-lent c = length-take-le line_size c.before.before.before.before.args.tape.now (search rules)
+lent : (c : tie.After-write_fields-arg-1) → length (take line_size c.args.tape.now) ≡ line_size
+lent c = length-take-le line_size c.args.tape.now (search rules)
 
-slice-aggregate-write-fields : tie.Need-slice-aggregate-write-fields
+slice-aggregate-write-fields : tie.Need-slice_bounds-write_fields-end-2
 slice-aggregate-write-fields c = sym (lent c)
 
-write-fields-requires : tie.Need-write-fields-requires
+write-fields-requires : tie.Need-write_fields-requires
 write-fields-requires c κs = (lent c, search rules)
 
 returns : tie.Need-returns
-returns c = (lent_back _ _ _ 0 line_size c.before.before.write-fields.ensures (length_line _ _ _ _ _), document_sizes)
+returns c = (lent_back _ _ _ 0 line_size c.write_fields.ensures (length_line _ _ _ _ _), document_sizes)
 
 pub write_line_spec : {M : Type 1} → statement M
 write_line_spec =

@@ -8,16 +8,11 @@ use Rattle.ledger.proofs.opening.write_caps.Tie as tie
 
 returns : tie.Need-returns
 returns c =
-    let fifth = c.before.before in
-    let fourth = fifth.before.before.before.before in
-    let third = fourth.before.before.before.before in
-    let second = third.before.before.before.before in
-    let first = second.before.before.before.before in
-    then_exact _ _ (length-to_le u64 _) _ _ first.write-at.ensures
-    (then_exact _ _ (length-to_le u64 _) _ _ second.write-at2.ensures
-    (then_exact _ _ (length-to_le u64 _) _ _ third.write-at3.ensures
-    (then_exact _ _ (length-to_le u64 _) _ _ fourth.write-at4.ensures
-    (last_exact _ _ (length-to_le u64 _) _ fifth.write-at5.ensures))))
+    then_exact _ _ (length-to_le u64 _) _ _ c.write_at.ensures
+    (then_exact _ _ (length-to_le u64 _) _ _ c.write_at-2.ensures
+    (then_exact _ _ (length-to_le u64 _) _ _ c.write_at-3.ensures
+    (then_exact _ _ (length-to_le u64 _) _ _ c.write_at-4.ensures
+    (last_exact _ _ (length-to_le u64 _) _ c.write_at-5.ensures))))
 
 pub write_caps_spec : {M : Type 1} → statement M
 write_caps_spec =

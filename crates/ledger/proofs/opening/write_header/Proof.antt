@@ -10,17 +10,17 @@ use Rattle.ledger.proofs.opening.write_header.Statement.{statement}
 use Rattle.ledger.proofs.opening.write_header.Tie as tie
 
 -- the lent part is a header long
-lent : (c : tie.After-write-numbers-arg) → length (take header_size c.before.before.args.l.now) ≡ header_size
-lent c = length-take-le header_size c.before.before.args.l.now (search rules)
+lent : (c : tie.After-write_numbers-arg-1) → length (take header_size c.args.l.now) ≡ header_size
+lent c = length-take-le header_size c.args.l.now (search rules)
 
-slice-aggregate-write-numbers : tie.Need-slice-aggregate-write-numbers
+slice-aggregate-write-numbers : tie.Need-slice_bounds-write_numbers-end-2
 slice-aggregate-write-numbers c = sym (lent c)
 
-write-numbers-requires : tie.Need-write-numbers-requires
+write-numbers-requires : tie.Need-write_numbers-requires
 write-numbers-requires c κs = lent c
 
 returns : tie.Need-returns
-returns c = lent_back _ _ _ 0 header_size c.before.before.write-numbers.ensures (length_header _ _)
+returns c = lent_back _ _ _ 0 header_size c.write_numbers.ensures (length_header _ _)
 
 pub write_header_spec : {M : Type 1} → statement M
 write_header_spec =

@@ -9,22 +9,17 @@ use Rattle.ledger.proofs.opening.write_numbers.Tie as tie
 
 returns : tie.Need-returns
 returns c =
-    let seventh = c.before.before in
-    let sixth = seventh.before.before.before.before in
-    let fifth = sixth.before.before.before.before in
-    let fourth = fifth.before.before.before.before in
-    let third = fourth.before.before.before.before in
-    let second = third.before.before.before.before in
-    let first = second.before.before.before.before in
-    let start = first.before.before.before in
+    let second = c in
+    let first = second in
+    let start = first in
     header_written _ _ _ start.requires
-    (then_exact _ _ (length-to_le u32 _) _ _ first.write-at.ensures
-    (then_exact _ _ (length-to_le u32 _) _ _ second.write-at2.ensures
-    (then_exact _ _ (length-to_le u64 _) _ _ third.write-at3.ensures
-    (then_group _ _ _ _ fourth.write-caps.ensures
-    (then_exact _ _ (length-to_le u32 _) _ _ fifth.write-at4.ensures
-    (then_exact _ _ (length-to_le u32 _) _ _ sixth.write-at5.ensures
-    seventh.write-totals.ensures))))))
+    (then_exact _ _ (length-to_le u32 _) _ _ first.write_at.ensures
+    (then_exact _ _ (length-to_le u32 _) _ _ second.write_at-2.ensures
+    (then_exact _ _ (length-to_le u64 _) _ _ c.write_at-3.ensures
+    (then_group _ _ _ _ c.write_caps.ensures
+    (then_exact _ _ (length-to_le u32 _) _ _ c.write_at-4.ensures
+    (then_exact _ _ (length-to_le u32 _) _ _ c.write_at-5.ensures
+    c.write_totals.ensures))))))
 
 pub write_numbers_spec : {M : Type 1} → statement M
 write_numbers_spec =

@@ -12,7 +12,7 @@ use Rattle.ledger.proofs.opening.write_totals.Tie as tie
 
 returns : tie.Need-returns
 unfolding bytes_of field to_le
-returns c = c.before.before.fill-at.ensures ∙ sym (written_row totals_at total_fields _ (search rules))
+returns c = c.fill_at.ensures ∙ sym (written_row totals_at total_fields _ (search rules))
 
 pub write_totals_spec : {M : Type 1} → statement M
 write_totals_spec = tie.close (tie.spec (λ c κs. search rules) (λ c. search rules) returns)

@@ -7,7 +7,7 @@ use Rattle.ledger.proofs.rows.change_row.Tie as tie
 
 returns : tie.Need-returns
 unfolding with_terms
-returns c = c.before.before.copy_at.ensures ∙ ap (with_terms _) c.before.before.before.before.before.before.mark-row.ensures
+returns c = c.copy_at.ensures ∙ ap (with_terms _) c.mark_row.ensures
 
 pub change_row_spec : {M : Type 1} → statement M
 change_row_spec = tie.close (tie.spec (λ c κs. search rules) (λ c κs. search rules) (λ c. search rules) returns)

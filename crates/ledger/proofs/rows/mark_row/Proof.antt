@@ -7,7 +7,7 @@ use Rattle.ledger.proofs.rows.mark_row.Tie as tie
 
 returns : tie.Need-returns
 unfolding with_identifier
-returns c = c.before.before.write-at.ensures ∙ ap (with_identifier _) c.before.before.before.before.before.before.set-status.ensures
+returns c = c.write_at.ensures ∙ ap (with_identifier _) c.set_status.ensures
 
 pub mark_row_spec : {M : Type 1} → statement M
 mark_row_spec = tie.close (tie.spec (λ c κs. search rules) (λ c κs. search rules) (λ c. search rules) returns)

@@ -4,9 +4,9 @@ use borrow.Author.Rules.{rules}
 use Rattle.ledger.proofs.rows.raise_next.Statement.{statement}
 use Rattle.ledger.proofs.rows.raise_next.Tie as tie
 
-returns : tie.Need-returns
+returns : tie.Need-returns-then-due
 unfolding with_next
-returns c = rw c.before.before.before.before.if1.true c.before.before.write-at.ensures
+returns c = rw c.if-due.true c.write_at.ensures
 
 pub raise_next_spec : {M : Type 1} → statement M
 raise_next_spec =

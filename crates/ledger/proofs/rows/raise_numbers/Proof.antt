@@ -10,8 +10,8 @@ use Rattle.ledger.proofs.rows.raise_numbers.Tie as tie
 returns : tie.Need-returns
 unfolding numbers_after
 returns c =
-    let a = c.before.before.before.before.before.before.before.before.before.args in
-    c.before.before.raise-next.ensures ∙ ap (λ l. choose a.due (with_next (a.next + 1) l) l) c.before.before.before.before.before.before.raise-rows.ensures
+    let a = c.args in
+    c.raise_next.ensures ∙ ap (λ l. choose a.due (with_next (a.next + 1) l) l) c.raise_rows.ensures
 
 pub raise_numbers_spec : {M : Type 1} → statement M
 raise_numbers_spec =

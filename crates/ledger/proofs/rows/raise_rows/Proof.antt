@@ -5,9 +5,9 @@ use borrow.Author.Rules.{rules}
 use Rattle.ledger.proofs.rows.raise_rows.Statement.{statement}
 use Rattle.ledger.proofs.rows.raise_rows.Tie as tie
 
-returns : tie.Need-returns
+returns : tie.Need-returns-then-is_new
 unfolding with_rows
-returns c = rw (sym c.before.before.before.before.before.is-new.ensures ∙ c.before.before.before.before.if1.true) c.before.before.write-at.ensures
+returns c = rw (sym c.is_new.ensures ∙ c.if-is_new.true) c.write_at.ensures
 
 pub raise_rows_spec : {M : Type 1} → statement M
 raise_rows_spec =

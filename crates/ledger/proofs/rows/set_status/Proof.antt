@@ -6,7 +6,7 @@ use Rattle.ledger.proofs.rows.set_status.Tie as tie
 
 returns : tie.Need-returns
 unfolding with_status
-returns c = c.before.before.fill-at.ensures
+returns c = c.fill_at.ensures
 
 pub set_status_spec : {M : Type 1} → statement M
 set_status_spec = tie.close (tie.spec (λ c κs. search rules) (λ c. search rules) returns)

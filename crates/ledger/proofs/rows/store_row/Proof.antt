@@ -15,12 +15,10 @@ use Rattle.ledger.proofs.rows.store_row.Tie as tie
 returns : tie.Need-returns
 unfolding row_at
 returns c =
-    let update = c.before.before in
-    let s = update.before.before.before.before.before in
-    let a = s.args in
+    let a = c.args in
     let l = a.l.now in
     let row : take (row_start a.k + row_size - row_start a.k) (drop (row_start a.k) l) ≡ row_at l a.k = rw add-sub_cancel_left in
-    lent_back _ _ _ _ _ (update.update-row.ensures ∙ ap (row_after a.a a.due a.status a.uti.now a.identifier a.terms.now) row) (length_row_after a.a a.due a.status a.uti.now a.identifier a.terms.now (row_at l a.k) s.requires.2 (length_row l a.k (search rules)))
+    lent_back _ _ _ _ _ (c.update_row.ensures ∙ ap (row_after a.a a.due a.status a.uti.now a.identifier a.terms.now) row) (length_row_after a.a a.due a.status a.uti.now a.identifier a.terms.now (row_at l a.k) c.requires.2 (length_row l a.k (search rules)))
 
 pub store_row_spec : {M : Type 1} → statement M
 store_row_spec =

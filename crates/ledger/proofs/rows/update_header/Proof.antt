@@ -7,15 +7,14 @@ use borrow.Author.Rules.{rules}
 use Rattle.ledger.proofs.rows.update_header.Statement.{statement}
 use Rattle.ledger.proofs.rows.update_header.Tie as tie
 
-move-totals-requires : tie.Need-move-totals-requires
+move-totals-requires : tie.Need-move_totals-requires
 move-totals-requires c κs =
-    let s = c.before.before.before.before.before.before in
-    let p = s.requires in
-    (search rules, p.3, p.4, p.5, λ h. rw (c.before.before.before.raise-numbers.ensures, numbers_total s.args.a s.args.due s.args.rows s.args.next s.args.l.now p.0 s.args.before) (p.6 h))
+    let p = c.requires in
+    (search rules, p.3, p.4, p.5, λ h. rw (c.raise_numbers.ensures, numbers_total c.args.a c.args.due c.args.rows c.args.next c.args.l.now p.0 c.args.before) (p.6 h))
 
 returns : tie.Need-returns
 unfolding header_after
-returns c = c.before.before.move-totals.ensures ∙ ap (totals_after _ _) c.before.before.before.before.before.before.raise-numbers.ensures
+returns c = c.move_totals.ensures ∙ ap (totals_after _ _) c.raise_numbers.ensures
 
 pub update_header_spec : {M : Type 1} → statement M
 update_header_spec =

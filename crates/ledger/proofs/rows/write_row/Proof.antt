@@ -10,20 +10,15 @@ use Rattle.ledger.proofs.rows.write_row.Tie as tie
 
 returns : tie.Need-returns
 returns c =
-    let sixth = c.before.before in
-    let fifth = sixth.before.before.before.before in
-    let fourth = fifth.before.before.before.before in
-    let third = fourth.before.before.before.before in
-    let second = third.before.before.before.before in
-    let first = second.before.before.before.before in
-    let start = first.before.before.before.before.before in
+    let first = c in
+    let start = first in
     row_written _ _ _ _ _ start.requires.0
-    (then_exact _ _ refl _ _ first.fill-at.ensures
-    (then_exact _ _ refl _ _ second.fill-at2.ensures
-    (then_written _ _ _ _ third.field_at.ensures
-    (then_exact _ _ (length-to_le u64 _) _ _ fourth.write-at.ensures
-    (then_exact _ _ start.requires.2 _ _ fifth.copy_at.ensures
-    (last_exact _ _ refl _ sixth.fill-at3.ensures))))))
+    (then_exact _ _ refl _ _ first.fill_at.ensures
+    (then_exact _ _ refl _ _ c.fill_at-2.ensures
+    (then_written _ _ _ _ c.field_at.ensures
+    (then_exact _ _ (length-to_le u64 _) _ _ c.write_at.ensures
+    (then_exact _ _ start.requires.2 _ _ c.copy_at.ensures
+    (last_exact _ _ refl _ c.fill_at-3.ensures))))))
 
 pub write_row_spec : {M : Type 1} → statement M
 write_row_spec =

@@ -8,23 +8,22 @@ use borrow.Author.Rules.{rules}
 use Rattle.ledger.proofs.search.find_swap.Statement.{statement}
 use Rattle.ledger.proofs.search.find_swap.Tie as tie
 
-abbrev start : tie.After-find-row → tie.Start
+abbrev start : tie.After-find_row-place → tie.Start
 start c = c.before.before.before
 
-abbrev l : tie.After-find-row → Bytes
+abbrev l : tie.After-find_row-place → Bytes
 l c = (start c).args.l.now
 
-place : (c : tie.After-find-row) → c.find-row.result ≡ place_of (l c) (start c).args.uti.now
-place c = c.find-row.ensures.0 ∙ ap (λ k. place_in (l c) k (start c).args.uti.now) (start c).requires.0
+place : (c : tie.After-find_row-place) → c.find_row-place.result ≡ place_of (l c) (start c).args.uti.now
+place c = c.find_row-place.ensures.0 ∙ ap (λ k. place_in (l c) k (start c).args.uti.now) (start c).requires.0
 
-returns : tie.Need-returns
-returns c = swap_unknown _ _ _ (place c.before) (omega (arith, c.if1.true, (start c.before).requires.0))
+returns : tie.Need-returns-then-place-rows
+returns c = swap_unknown _ _ _ (place c.before) (omega (arith, c.if-place-rows.true, (start c.before).requires.0))
 
-returns-2 : tie.Need-returns-2
+returns-2 : tie.Need-returns
 returns-2 c =
-    let e = c.before.before in
-    rw (c.before.status-at.ensures, c.identifier-at.ensures)
-    (swap_known _ _ _ (place e.before) (omega (arith, e.if1.false, e.before.find-row.ensures.1, (start e.before).requires.0)))
+    rw (c.status_at.ensures, c.identifier_at.ensures)
+    (swap_known _ _ _ (place c.before.before.before) (omega (arith, c.if-place-rows.false, c.find_row-place.ensures.1, (start c.before.before.before).requires.0)))
 
 pub find_swap_spec : {M : Type 1} → statement M
 find_swap_spec =

@@ -7,7 +7,7 @@ use Rattle.ledger.proofs.search.identifier_at.Tie as tie
 
 returns : tie.Need-returns
 unfolding identifier_of
-returns c = c.read_at.ensures.0 ∙ ap identifier_of c.before.row_at.ensures.0
+returns c = c.read_at.ensures.0 ∙ ap identifier_of c.row_at.ensures.0
 
 pub identifier_at_spec : {M : Type 1} → statement M
 identifier_at_spec = tie.close (tie.spec (λ c κs. search rules) (λ c κs. search rules) returns)

@@ -13,10 +13,10 @@ use Rattle.ledger.proofs.search.row_at.Tie as tie
 returns : tie.Need-returns
 unfolding row_at
 returns c =
-    let l = c.before.args.l.now in
-    let k = c.before.args.k in
+    let l = c.args.l.now in
+    let k = c.args.k in
     let e : take (row_start k + row_size - row_start k) (drop (row_start k) l) ≡ row_at l k = rw add-sub_cancel_left in
-    (e, ap length e ∙ length_row l k c.before.requires)
+    (e, ap length e ∙ length_row l k c.requires)
 
 pub row_at_spec : {M : Type 1} → statement M
 row_at_spec =

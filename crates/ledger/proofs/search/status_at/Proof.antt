@@ -7,7 +7,7 @@ use Rattle.ledger.proofs.search.status_at.Tie as tie
 
 returns : tie.Need-returns
 unfolding status_of
-returns c = ap status_of c.before.row_at.ensures.0
+returns c = ap status_of c.row_at-row.ensures.0
 
 pub status_at_spec : {M : Type 1} → statement M
 status_at_spec = tie.close (tie.spec (λ c κs. search rules) (λ c. search rules) returns)

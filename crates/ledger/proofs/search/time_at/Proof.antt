@@ -7,7 +7,7 @@ use Rattle.ledger.proofs.search.time_at.Tie as tie
 
 returns : tie.Need-returns
 unfolding stored_time
-returns c = c.part_of.ensures.0 ∙ ap stored_time c.before.row_at.ensures.0
+returns c = c.part_of.ensures.0 ∙ ap stored_time c.row_at.ensures.0
 
 pub time_at_spec : {M : Type 1} → statement M
 time_at_spec = tie.close (tie.spec (λ c κs. search rules) (λ c κs. search rules) returns)

@@ -8,24 +8,20 @@ use borrow.Author.Rules.{rules}
 use Rattle.ledger.proofs.totals.lower_total.Statement.{statement}
 use Rattle.ledger.proofs.totals.lower_total.Tie as tie
 
-returns : tie.Need-returns
+returns : tie.Need-returns-then-before-eq-UNKNOWN
 unfolding lowered
 returns c =
-    let before : ℕ = c.before.before.args.before in
+    let before : ℕ = c.args.before in
     rw (eq-eqb before unknown (omega arith))
 
-sub-less : tie.Need-overflow-sub-less
+sub-less : tie.Need-overflow_sub-less
 sub-less c =
-    let e = c.before.before in
-    rw c.read-total.ensures (e.before.before.requires.2 e.if1.false)
+    rw c.read_total-less.ensures (c.requires.2 c.if-before-eq-UNKNOWN.false)
 
-returns-2 : tie.Need-returns-2
+returns-2 : tie.Need-returns
 unfolding lowered with_total
 returns-2 c =
-    let total = c.before.before.before in
-    let read = total.before.before in
-    let e = read.before.before in
-    rw (ne_eqb _ _ e.if1.false, ← read.read-total.ensures, ← total.total-at.ensures) c.before.before.write-at.ensures
+    rw (ne_eqb _ _ c.if-before-eq-UNKNOWN.false, ← c.read_total-less.ensures, ← c.total_at.ensures) c.write_at.ensures
 
 pub lower_total_spec : {M : Type 1} → statement M
 lower_total_spec =

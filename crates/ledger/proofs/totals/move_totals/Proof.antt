@@ -6,20 +6,16 @@ use borrow.Author.Rules.{rules}
 use Rattle.ledger.proofs.totals.move_totals.Statement.{statement}
 use Rattle.ledger.proofs.totals.move_totals.Tie as tie
 
-returns : tie.Need-returns
+returns : tie.Need-returns-then-before-after
 unfolding totals_after
 returns c =
-    let a = c.before.before.args in
+    let a = c.args in
     rw (eq-eqb a.before a.after (omega arith))
 
-returns-2 : tie.Need-returns-2
+returns-2 : tie.Need-returns
 unfolding totals_after with_total
 returns-2 c =
-    let total = c.before.before.before in
-    let lower = total.before.before.before.before in
-    let read = lower.before.before in
-    let e = read.before.before in
-    rw (ne_eqb _ _ e.if1.false, ← read.read-total.ensures, ← total.total-at.ensures, ← lower.lower-total.ensures) c.before.before.write-at.ensures
+    rw (ne_eqb _ _ c.if-before-after.false, ← c.read_total.ensures, ← c.total_at.ensures, ← c.lower_total.ensures) c.write_at.ensures
 
 pub move_totals_spec : {M : Type 1} → statement M
 move_totals_spec =

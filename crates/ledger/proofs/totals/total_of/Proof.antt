@@ -7,34 +7,34 @@ use Rattle.ledger.specs.Totals.{total_of}
 use Rattle.ledger.proofs.totals.total_of.Statement.{statement}
 use Rattle.ledger.proofs.totals.total_of.Tie as tie
 
-returns : tie.Need-returns
+returns : tie.Need-returns-in-1
 unfolding total_of
 returns c =
-    let s : ℕ = c.before.args.status in
+    let s : ℕ = c.args.status in
     rw (eq-eqb s live (omega arith))
 
-returns-2 : tie.Need-returns-2
+returns-2 : tie.Need-returns-in-2
 unfolding total_of
 returns-2 c =
-    let s : ℕ = c.before.args.status in
+    let s : ℕ = c.args.status in
     rw (ne_eqb s live (omega arith), eq-eqb s closed (omega arith))
 
-returns-3 : tie.Need-returns-3
+returns-3 : tie.Need-returns-in-3
 unfolding total_of
 returns-3 c =
-    let s : ℕ = c.before.args.status in
+    let s : ℕ = c.args.status in
     rw (ne_eqb s live (omega arith), ne_eqb s closed (omega arith), eq-eqb s errored (omega arith))
 
-returns-4 : tie.Need-returns-4
+returns-4 : tie.Need-returns-in-4
 unfolding total_of
 returns-4 c =
-    let s : ℕ = c.before.args.status in
+    let s : ℕ = c.args.status in
     rw (ne_eqb s live (omega arith), ne_eqb s closed (omega arith), ne_eqb s errored (omega arith), eq-eqb s ported (omega arith))
 
-returns-5 : tie.Need-returns-5
+returns-5 : tie.Need-returns-in_default
 unfolding total_of
 returns-5 c =
-    let s : ℕ = c.before.args.status in
+    let s : ℕ = c.args.status in
     rw (ne_eqb s live (omega arith), ne_eqb s closed (omega arith), ne_eqb s errored (omega arith), ne_eqb s ported (omega arith))
 
 pub total_of_spec : {M : Type 1} → statement M
