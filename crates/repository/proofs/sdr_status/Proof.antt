@@ -10,10 +10,10 @@ use Rattle.repository.proofs.sdr_status.Statement.{statement}
 use Rattle.repository.proofs.sdr_status.Tie as tie
 
 pack-requires : tie.Need-pack-requires
-pack-requires c κs = carried _ _ (c.status.ensures document_limits.longest) (question_small document_limits _ _)
+pack-requires c κs = carried _ _ (c.status-a.ensures document_limits.longest) (question_small document_limits _ _)
 
 returns : tie.Need-returns
-returns c = (c.pack.ensures.1 ∙ c.before.status.ensures document_limits.longest, (question_answers, question_exactly, number_carries))
+returns c = (c.pack.ensures.1 ∙ c.status-a.ensures document_limits.longest, (question_answers, question_exactly, number_carries))
 
 pub sdr_status_spec : {M : Type 1} → statement M
 sdr_status_spec = tie.close (tie.spec (λ c κs. search rules) pack-requires returns)

@@ -39,11 +39,11 @@ demands =
     }
 
 pack-requires : tie.Need-pack-requires
-pack-requires c κs = carried _ _ c.before.before.before.before.submit.ensures.0 (submission_small document_limits _ _)
+pack-requires c κs = carried _ _ c.submit-a.ensures.0 (submission_small document_limits _ _)
 
 returns : tie.Need-returns
 returns c =
-    let s = c.before.before.before.before.before.submit.ensures in
+    let s = c.submit-a.ensures in
     (c.pack.ensures.1 ∙ s.0, (s.1, demands))
 
 pub sdr_submit_spec : {M : Type 1} → statement M

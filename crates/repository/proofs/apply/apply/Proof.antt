@@ -13,40 +13,36 @@ use Rattle.repository.proofs.apply.apply.Tie as tie
 abbrev start : tie.After-publish → tie.Start
 start c = c.before.before.before.before.before.before
 
-store-row-requires : tie.Need-store-row-requires
+store-row-requires : tie.Need-store_row-requires
 store-row-requires c κs =
     let f = (start c.before.before.before.before).requires in
     (f.0.row, uti_fits _ _ f.0.uti c.element.ensures.0, f.3)
 
-update-header-requires : tie.Need-update-header-requires
+update-header-requires : tie.Need-update_header-requires
 update-header-requires c κs =
-    let r = c.before.before.before in
-    let s = start r.before.before.before.before.before in
-    let f = s.pre in
+    let s = start c.before.before.before.before.before.before.before.before in
+    let f = s.requires in
     let x = s.args in
-    let kept = rows_after_total x.s.action x.due x.s.status r.before.element.result.now x.s.next x.terms.now x.s.place x.l.now f.3 f.0.row x.s.before f.0.before in
-    (search rules, f.0.rows, f.0.next, f.0.before, f.0.least, f.0.most, λ h. rw (r.store-row.ensures, kept) (f.0.counted h))
+    let kept = rows_after_total x.s.action x.due x.s.status c.element.result.now x.s.next x.terms.now x.s.place x.l.now f.3 f.0.row x.s.before f.0.before in
+    (search rules, f.0.rows, f.0.next, f.0.before, f.0.least, f.0.most, λ h. rw (c.store_row.ensures, kept) (f.0.counted h))
 
 returns : tie.Need-returns
 returns c =
-    let h = c.before.before in
-    let r = h.before.before.before.before in
-    let p = r.before.before.before.before.before in
-    let f = (start p).requires in
-    let x = (start p).args in
+    let f = (start c.before.before.before.before.before.before.before.before.before.before.before).requires in
+    let x = (start c.before.before.before.before.before.before.before.before.before.before.before).args in
     let s = x.s in
     let a = s.action in
     let l = x.l.now in
     let m = x.m.now in
     let due = line_due_in a l m in
     let terms = terms_for a l m in
-    let row = r.store-row.ensures
-    ∙ ap (λ u. rows_after a x.due s.status u s.next x.terms.now s.place l) r.before.element.ensures.0
+    let row = c.store_row.ensures
+    ∙ ap (λ u. rows_after a x.due s.status u s.next x.terms.now s.place l) c.element.ensures.0
     ∙ ap₂ (λ d t. rows_after a d s.status (swap_of m) s.next t s.place l) f.1 f.2 in
-    let line = p.publish.ensures
+    let line = c.publish.ensures
     ∙ ap₂ (λ d t. tape_after d (line a s.next s.previous m t) x.tape.now) f.1 f.2
     ∙ ap (λ z. tape_after due z x.tape.now) (line_is f.0) in
-    let ledger = h.update-header.ensures
+    let ledger = c.update_header.ensures
     ∙ ap₂ (λ d z. header_after a d s.before s.status s.rows s.next z) f.1 row
     ∙ ledger_is f.0 in
     ap₂ lent_of ledger line

@@ -3,10 +3,9 @@ use borrow.Author.Rules.{rules}
 use Rattle.repository.proofs.apply.publish.Statement.{statement}
 use Rattle.repository.proofs.apply.publish.Tie as tie
 
-returns : tie.Need-returns
+returns : tie.Need-returns-then-due
 returns c =
-    let w = c.before.before in
-    rw w.before.before.if1.true w.write-line.ensures.0
+    rw c.if-due.true c.write_line.ensures.0
 
 pub publish_spec : {M : Type 1} → statement M
 publish_spec = tie.close (tie.spec (λ c κs. search rules) (λ c. search rules) returns (λ c. search rules))

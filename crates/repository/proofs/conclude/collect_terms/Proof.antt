@@ -7,22 +7,17 @@ use borrow.Author.Rules.{rules}
 use Rattle.repository.proofs.conclude.collect_terms.Statement.{statement}
 use Rattle.repository.proofs.conclude.collect_terms.Tie as tie
 
-returns : tie.Need-returns
+returns : tie.Need-returns-then-is_full
 returns c =
-    let w = c.before.before in
-    let i = w.before.before in
-    rw (sym i.before.is-full.ensures ∙ i.if1.true) w.write-terms.ensures.0
+    rw (sym c.is_full.ensures ∙ c.if-is_full.true) c.write_terms.ensures.0
 
 copy-requires : tie.Need-copy-requires
 copy-requires c κs =
-    let s = c.before.before.before.before.before.before.before in
-    ap length c.terms-at.ensures ∙ length_stored _ (length_row _ _ s.requires.1) ∙ sym s.requires.0
+    ap length c.terms_at.ensures ∙ length_stored _ (length_row _ _ c.requires.1) ∙ sym c.requires.0
 
-returns-2 : tie.Need-returns-2
+returns-2 : tie.Need-returns
 returns-2 c =
-    let w = c.before.before in
-    let e = w.before.before.before in
-    rw (sym e.before.is-full.ensures ∙ e.if1.false) (w.copy.ensures ∙ w.before.terms-at.ensures)
+    rw (sym c.is_full.ensures ∙ c.if-is_full.false) (c.copy.ensures ∙ c.terms_at.ensures)
 
 pub collect_terms_spec : {M : Type 1} → statement M
 collect_terms_spec =

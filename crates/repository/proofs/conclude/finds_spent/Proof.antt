@@ -1,22 +1,21 @@
 -- `repository::conclude::finds_spent` meets its contract. Assumes nothing.
 use mathlib.Core.Bool.{true, false}
 use mathlib.Core.Path.{◌≡◌}
-use borrow.Author.Tests.{not-true, not-false}
 use Rattle.submission.specs.Submission.{finds_spent}
 use Rattle.repository.proofs.conclude.finds_spent.Statement.{statement}
 use Rattle.repository.proofs.conclude.finds_spent.Tie as tie
 
-none : (c : tie.Then1) → c.before.args.due ≡ false
-none c = not-true _ c.if1.true
+none : (c : tie.Then-not-due) → c.args.due ≡ false
+none c = c.if-not-due.true
 
-due : (c : tie.Else1) → c.before.args.due ≡ true
-due c = not-false _ c.if1.false
+due : (c : tie.Else-not-due) → c.args.due ≡ true
+due c = c.if-not-due.false
 
-returns : tie.Need-returns
+returns : tie.Need-returns-then-not-due
 unfolding finds_spent
 returns c = rw (none c)
 
-returns-2 : tie.Need-returns-2
+returns-2 : tie.Need-returns
 unfolding finds_spent
 returns-2 c = rw (due c)
 

@@ -14,24 +14,24 @@ use borrow.Author.Rules.{rules}
 use Rattle.repository.proofs.decide.decide.Statement.{statement}
 use Rattle.repository.proofs.decide.decide.Tie as tie
 
-abbrev s1 : tie.After-known-told → tie.Start
-s1 c = c.before.before.before.before.before.before.before
+abbrev s1 : tie.In-Value → tie.Start
+s1 c = c.before.before.before.before.before
 
-abbrev header : tie.After-known-told → Header
-header c = c.before.header.given.0.0
+abbrev header : tie.In-Value → Header
+header c = c.in-Value.header
 
-known : (c : tie.After-known-told) → (header_right (s1 c).args.largest (s1 c).args.l.now ≡ true) × (header c ≡ header_of (s1 c).args.l.now)
-known c = header_checked _ _ (check.Value (header c)) (sym c.before.before.before.read-header.ensures ∙ c.before.header.given.1)
+known : (c : tie.In-Value) → (header_right (s1 c).args.largest (s1 c).args.l.now ≡ true) × (header c ≡ header_of (s1 c).args.l.now)
+known c = header_checked _ _ (check.Value (header c)) (sym c.read_header.ensures ∙ c.in-Value.is)
 
-returns : tie.Need-returns
+returns : tie.Need-returns-in_default
 unfolding submission_rules finding_of before_rule
 returns c =
-    let wrong = header_checked _ _ check.Fault (sym c.before.before.read-header.ensures ∙ c.enum_told.given.1) in
+    let wrong = header_checked _ _ check.Fault (sym c.read_header.ensures ∙ c.in_default.is) in
     test_stops ledger_wrong _ _ _ refl (ap (λ b. broken_if (not b)) wrong) ∙ from_first _ _ _
 
-returns-2 : tie.Need-returns-2
+returns-2 : tie.Need-returns
 unfolding submission_rules decision_from from_rule before_rule first_broken
-returns-2 c = rw (known c.before).0 (c.decide-tape.ensures (s1 c.before).args.largest) ∙ from_first _ _ _
+returns-2 c = rw (known c.before).0 (c.decide_tape.ensures (s1 c.before).args.largest) ∙ from_first _ _ _
 
 pub decide_spec : {M : Type 1} → statement M
 decide_spec =

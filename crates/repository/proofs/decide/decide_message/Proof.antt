@@ -10,15 +10,13 @@ use Rattle.repository.proofs.decide.decide_message.Tie as tie
 abbrev start : tie.After-judge → tie.Start
 start c = c.before.before.before
 
-returns : tie.Need-returns
+returns : tie.Need-returns-in-Refused
 returns c largest b =
-    let j = c.before.before.before in
-    sym (message_left (limits_of (start j).args.longest largest) (record { ledger = _; buffers = b }) _ (judged.Refused _ _) (sym j.judge.ensures.1 ∙ c.before.verdict.given.1))
+    sym (message_left (limits_of (start c.before).args.longest largest) (record { ledger = _; buffers = b }) _ (judged.Refused _ _) (sym c.judge.ensures.1 ∙ c.in-Refused.is))
 
-returns-2 : tie.Need-returns-2
+returns-2 : tie.Need-returns-in-Value
 returns-2 c largest b =
-    let j = c.before.before.before.before in
-    c.decide-swap.ensures ∙ sym (message_left (limits_of (start j).args.longest largest) (record { ledger = _; buffers = b }) _ (judged.Value _) (sym j.judge.ensures.1 ∙ c.before.before.action.given.1))
+    c.decide_swap.ensures ∙ sym (message_left (limits_of (start c.before.before).args.longest largest) (record { ledger = _; buffers = b }) _ (judged.Value _) (sym c.judge.ensures.1 ∙ c.in-Value.is))
 
 pub decide_message_spec : {M : Type 1} → statement M
 decide_message_spec =

@@ -7,13 +7,13 @@ use borrow.Author.Rules.{rules}
 use Rattle.repository.proofs.decide.decide_room.Statement.{statement}
 use Rattle.repository.proofs.decide.decide_room.Tie as tie
 
-returns : tie.Need-returns
+returns : tie.Need-returns-then-finds_full
 unfolding decided_from swap_rules from_rule first_broken
-returns c swap time m = rw (sym c.before.finds-full.ensures ∙ c.if1.true)
+returns c swap time m = rw (sym c.finds_full.ensures ∙ c.if-finds_full.true)
 
-returns-2 : tie.Need-returns-2
+returns-2 : tie.Need-returns
 unfolding decided_from swap_rules from_rule first_broken
-returns-2 c swap time m = rw (sym c.before.finds-full.ensures ∙ c.if1.false)
+returns-2 c swap time m = rw (sym c.finds_full.ensures ∙ c.if-finds_full.false)
 
 pub decide_room_spec : {M : Type 1} → statement M
 decide_room_spec = tie.close (tie.spec (λ c κs. search rules) returns returns-2)

@@ -7,13 +7,13 @@ use borrow.Author.Rules.{rules}
 use Rattle.repository.proofs.decide.decide_row.Statement.{statement}
 use Rattle.repository.proofs.decide.decide_row.Tie as tie
 
-returns : tie.Need-returns
+returns : tie.Need-returns-then-has_wrong_row
 unfolding decided_from swap_rules from_rule first_broken
-returns c = rw (sym c.before.has-wrong-row.ensures ∙ c.if1.true)
+returns c = rw (sym c.has_wrong_row.ensures ∙ c.if-has_wrong_row.true)
 
-returns-2 : tie.Need-returns-2
+returns-2 : tie.Need-returns
 unfolding decided_from swap_rules from_rule first_broken
-returns-2 c = rw (sym c.before.before.has-wrong-row.ensures ∙ c.before.if1.false) c.decide-step.ensures
+returns-2 c = rw (sym c.has_wrong_row.ensures ∙ c.if-has_wrong_row.false) c.decide_step.ensures
 
 pub decide_row_spec : {M : Type 1} → statement M
 decide_row_spec = tie.close (tie.spec (λ c κs. search rules) returns (λ c κs. search rules) returns-2)

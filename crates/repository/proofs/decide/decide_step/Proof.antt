@@ -10,16 +10,15 @@ use borrow.Author.Rules.{rules}
 use Rattle.repository.proofs.decide.decide_step.Statement.{statement}
 use Rattle.repository.proofs.decide.decide_step.Tie as tie
 
-returns : tie.Need-returns
+returns : tie.Need-returns-then-status-eq-NO_STEP
 unfolding decided_from swap_rules from_rule first_broken is_not_admitted
-returns c = rw (ap (λ s. eqb s no_step) (sym c.before.status-after.ensures) ∙ eq-eqb _ _ c.if1.true)
+returns c = rw (ap (λ s. eqb s no_step) (sym c.status_after-status.ensures) ∙ eq-eqb _ _ c.if-status-eq-NO_STEP.true)
 
-returns-2 : tie.Need-returns-2
+returns-2 : tie.Need-returns
 unfolding decided_from swap_rules from_rule first_broken is_not_admitted
 returns-2 c =
-    let e = c.before in
-    rw (ap (λ s. eqb s no_step) (sym e.before.status-after.ensures) ∙ ne_eqb _ _ e.if1.false, ← e.before.status-after.ensures)
-    (c.decide-time.ensures e.before.before.before.before.args.swap)
+    rw (ap (λ s. eqb s no_step) (sym c.status_after-status.ensures) ∙ ne_eqb _ _ c.if-status-eq-NO_STEP.false, ← c.status_after-status.ensures)
+    (c.decide_time.ensures c.args.swap)
 
 pub decide_step_spec : {M : Type 1} → statement M
 decide_step_spec = tie.close (tie.spec (λ c κs. search rules) returns (λ c κs. search rules) returns-2)

@@ -33,47 +33,37 @@ no_total : (n : ℕ) → ltb n 1 ≡ not (leb 1 n)
 no_total zero = refl
 no_total (suc n) = rw (le-ltb (suc n) 1 (omega arith), le-leb 1 (suc n) (omega arith))
 
-returns : tie.Need-returns
-returns c = sym (unknown_row _ _ (not-true _ c.if1.true))
+returns : tie.Need-returns-then-not-swap
+returns c = sym (unknown_row _ _ (not-true _ c.if-not-swap.true))
 
-known : (c : tie.Else1) → has_wrong_row c.before.before.args.header c.before.before.args.swap ≡ not (row_right c.before.before.args.header c.before.before.args.swap)
-known c = known_row _ _ (not-false _ c.if1.false)
+known : (c : tie.Else-not-swap) → has_wrong_row c.args.header c.args.swap ≡ not (row_right c.args.header c.args.swap)
+known c = known_row _ _ (not-false _ c.if-not-swap.false)
 
-returns-2 : tie.Need-returns-2
+returns-2 : tie.Need-returns-then-swap-lt-LIVE
 unfolding row_right
-returns-2 c = rw (known c.before.before, lt-leb _ _ c.if2.true)
+returns-2 c = rw (known c.before.before, lt-leb _ _ c.if-swap-lt-LIVE.true)
 
-returns-3 : tie.Need-returns-3
+returns-3 : tie.Need-returns-then-swap-gt-PORTED
 unfolding row_right
 returns-3 c =
-    let e = c.before.before in
-    rw (known e.before.before, le-leb _ _ e.if2.false, lt-leb _ _ c.if3.true)
+    rw (known c.before.before.before.before, le-leb _ _ c.if-swap-lt-LIVE.false, lt-leb _ _ c.if-swap-gt-PORTED.true)
 
-returns-4 : tie.Need-returns-4
+returns-4 : tie.Need-returns-then-swap-lt1
 unfolding row_right
 returns-4 c =
-    let f = c.before.before in
-    let e = f.before.before in
-    rw (known e.before.before, le-leb _ _ e.if2.false, le-leb _ _ f.if3.false, lt-leb _ _ c.if4.true)
+    rw (known c.before.before.before.before.before.before, le-leb _ _ c.if-swap-lt-LIVE.false, le-leb _ _ c.if-swap-gt-PORTED.false, lt-leb _ _ c.if-swap-lt1.true)
 
-returns-5 : tie.Need-returns-5
+returns-5 : tie.Need-returns-then-header-swap
 unfolding row_right
 returns-5 c =
-    let g = c.before.before.before in
-    let f = g.before.before in
-    let e = f.before.before in
-    rw (known e.before.before, le-leb _ _ e.if2.false, le-leb _ _ f.if3.false, le-leb _ _ g.if4.false, lt-leb _ _ (beyond _ _ g.if4.false c.if5.true))
+    rw (known c.before.before.before.before.before.before.before.before.before, le-leb _ _ c.if-swap-lt-LIVE.false, le-leb _ _ c.if-swap-gt-PORTED.false, le-leb _ _ c.if-swap-lt1.false, lt-leb _ _ (beyond _ _ c.if-swap-lt1.false c.if-header-swap.true))
 
-returns-6 : tie.Need-returns-6
+returns-6 : tie.Need-returns
 unfolding row_right
 returns-6 c =
-    let h = c.before.before in
-    let g = h.before.before.before in
-    let f = g.before.before in
-    let e = f.before.before in
-    let a = e.before.before.before.before.args in
-    let most = within_next a.swap.identifier a.header.next g.if4.false h.if5.false in
-    rw (known e.before.before, le-leb _ _ e.if2.false, le-leb _ _ f.if3.false, le-leb _ _ g.if4.false, le-leb _ _ most, ← c.total_of_lem.ensures) (no_total c.total_of_lem.result)
+    let a = c.args in
+    let most = within_next a.swap.identifier a.header.next c.if-swap-lt1.false c.if-header-swap.false in
+    rw (known c.before.before.before.before.before.before.before.before.before.before.before, le-leb _ _ c.if-swap-lt-LIVE.false, le-leb _ _ c.if-swap-gt-PORTED.false, le-leb _ _ c.if-swap-lt1.false, le-leb _ _ most, ← c.total_of.ensures) (no_total c.total_of.result)
 
 pub has_wrong_row_spec : {M : Type 1} → statement M
 has_wrong_row_spec = tie.close (tie.spec returns returns-2 returns-3 returns-4 returns-5 (λ c κs. search rules) returns-6)

@@ -5,11 +5,11 @@ use borrow.Author.Rules.{rules}
 use Rattle.repository.proofs.operations.answer_of.Statement.{statement}
 use Rattle.repository.proofs.operations.answer_of.Tie as tie
 
-returns : tie.Need-returns
-returns c = c.refusal.ensures ∙ ap decision_answer (sym c.before.before.d.given.1)
+returns : tie.Need-returns-in-Refused
+returns c = c.refusal.ensures ∙ ap decision_answer (sym c.in-Refused.is)
 
-returns-2 : tie.Need-returns-2
-returns-2 c = c.refusal2.ensures ∙ ap decision_answer (sym c.before.enum_told.given.1)
+returns-2 : tie.Need-returns-in-Value
+returns-2 c = c.refusal-in-Value.ensures ∙ ap decision_answer (sym c.in-Value.is)
 
 pub answer_of_spec : {M : Type 1} → statement M
 answer_of_spec =

@@ -2,7 +2,6 @@
 use Prim.Native.Nat.{ℕ, suc}
 use mathlib.Core.Path.{◌≡◌, sym, ap, ◌∙◌}
 use native.Mathlib.Omega.{arith}
-use borrow.Author.Tests.{not-true, not-false}
 use Rattle.octets.specs.Bytes.{Bytes}
 use Rattle.octets.specs.Part.{splice}
 use Rattle.ledger.specs.declared.header.Caps.{Caps}
@@ -21,32 +20,28 @@ use Rattle.repository.proofs.operations.open.Tie as tie
 kept : (limits : Limits) (caps : Caps) (l : Bytes) (n : ℕ) → (opened limits caps l).verdict ≡ suc n → l ≡ (opened limits caps l).ledger
 kept limits caps l n e = sym (opening_answers limits caps l (λ z. omega (arith, z, e))).1
 
-returns : tie.Need-returns
+returns : tie.Need-returns-then-n-lt-SHORTEST_LEDGER
 returns c =
-    let a = c.before.before.args in (
-      (λ longest. sym ((opening_exactly (limits_of longest a.largest) a.caps a.l.now).short.1 c.if1.true)),
-      (λ longest. kept _ _ _ _ ((opening_exactly (limits_of longest a.largest) a.caps a.l.now).short.1 c.if1.true)),
+    let a = c.args in (
+      (λ longest. sym ((opening_exactly (limits_of longest a.largest) a.caps a.l.now).short.1 c.if-n-lt-SHORTEST_LEDGER.true)),
+      (λ longest. kept _ _ _ _ ((opening_exactly (limits_of longest a.largest) a.caps a.l.now).short.1 c.if-n-lt-SHORTEST_LEDGER.true)),
     )
 
-returns-2 : tie.Need-returns-2
+returns-2 : tie.Need-returns-then-not-are_caps
 returns-2 c =
-    let e = c.before.before in
-    let a = e.before.before.args in
-    let caps = sym c.before.are-caps.ensures ∙ not-true _ c.if2.true in (
-      (λ longest. sym ((opening_exactly (limits_of longest a.largest) a.caps a.l.now).cap.1 (e.if1.false, caps))),
-      (λ longest. kept _ _ _ _ ((opening_exactly (limits_of longest a.largest) a.caps a.l.now).cap.1 (e.if1.false, caps))),
+    let a = c.args in
+    let caps = sym c.are_caps.ensures ∙ c.if-not-are_caps.true in (
+      (λ longest. sym ((opening_exactly (limits_of longest a.largest) a.caps a.l.now).cap.1 (c.if-n-lt-SHORTEST_LEDGER.false, caps))),
+      (λ longest. kept _ _ _ _ ((opening_exactly (limits_of longest a.largest) a.caps a.l.now).cap.1 (c.if-n-lt-SHORTEST_LEDGER.false, caps))),
     )
 
-returns-3 : tie.Need-returns-3
+returns-3 : tie.Need-returns
 returns-3 c =
-    let w = c.before.before in
-    let f = w.before.before.before in
-    let e = f.before.before in
-    let a = e.before.before.args in
-    let caps = sym f.before.are-caps.ensures ∙ not-false _ f.if2.false in
-    let written = w.write-header.ensures ∙ ap (λ n. splice a.l.now rows_at (new_header a.caps n)) w.before.capacity-for.ensures in (
-      (λ longest. sym ((opening_exactly (limits_of longest a.largest) a.caps a.l.now).accepted.1 (e.if1.false, caps))),
-      (λ longest. written ∙ sym (start_is _ _ _ ((opening_exactly (limits_of longest a.largest) a.caps a.l.now).accepted.1 (e.if1.false, caps)))),
+    let a = c.args in
+    let caps = sym c.are_caps.ensures ∙ c.if-not-are_caps.false in
+    let written = c.write_header.ensures ∙ ap (λ n. splice a.l.now rows_at (new_header a.caps n)) c.capacity_for.ensures in (
+      (λ longest. sym ((opening_exactly (limits_of longest a.largest) a.caps a.l.now).accepted.1 (c.if-n-lt-SHORTEST_LEDGER.false, caps))),
+      (λ longest. written ∙ sym (start_is _ _ _ ((opening_exactly (limits_of longest a.largest) a.caps a.l.now).accepted.1 (c.if-n-lt-SHORTEST_LEDGER.false, caps)))),
     )
 
 pub open_spec : {M : Type 1} → statement M

@@ -11,23 +11,19 @@ use borrow.Author.Rules.{rules}
 use Rattle.repository.proofs.operations.totals.Statement.{statement}
 use Rattle.repository.proofs.operations.totals.Tie as tie
 
-returns : tie.Need-returns
+returns : tie.Need-returns-in_default
 unfolding asked_totals totals_rules first_broken
 returns c =
-    let told = c.before in
-    let read = told.before.before in
-    let a = read.before.before.args in
-    let wrong = header_checked a.largest a.l.now check.Fault (sym read.read-header.ensures ∙ told.enum_told.given.1) in
+    let a = c.args in
+    let wrong = header_checked a.largest a.l.now check.Fault (sym c.read_header.ensures ∙ c.in_default.is) in
     (λ longest. rw wrong, λ longest. rw wrong)
 
-returns-2 : tie.Need-returns-2
+returns-2 : tie.Need-returns
 unfolding asked_totals totals_rules first_broken header_of
 returns-2 c =
-    let known = c.before.before.before in
-    let read = known.before.before in
-    let a = read.before.before.args in
-    let header : Header = known.header.given.0.0 in
-    let right = header_checked a.largest a.l.now (check.Value header) (sym read.read-header.ensures ∙ known.header.given.1) in
+    let a = c.args in
+    let header : Header = c.in-Value.header in
+    let right = header_checked a.largest a.l.now (check.Value header) (sym c.read_header.ensures ∙ c.in-Value.is) in
     (λ longest. rw right.0, λ longest. rw right.0 (c.in_order.ensures ∙ ap (λ (h : Header). in_order h.totals) right.1))
 
 pub totals_spec : {M : Type 1} → statement M
