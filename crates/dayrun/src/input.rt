@@ -4,7 +4,9 @@ ghost use Rattle.octets.specs.Part.{part, splice};
 ghost use Rattle.dayrun.specs.Progress.{block_size};
 
 use day::{LONGEST_FRAME, keep};
-use libc::{SEEK_CUR, STDIN_FILENO};
+use std::fs;
+use std::io::Read;
+use std::rt::HostRuntime;
 
 // As many bytes are read at a time, beside a message that is not whole yet.
 const BLOCK_SIZE: usize = 65_536;
@@ -13,19 +15,25 @@ pub const INPUT_SIZE: usize = LONGEST_FRAME + BLOCK_SIZE;
 
 // Reads once, behind the bytes that are kept and stay, and answers how many bytes came; none at the end of the input, or where
 // reading fails.
-pub fn read_block(input: &mut [u8], kept: usize) -> usize
+pub fn read_block(rt: &HostRuntime, input: &mut [u8], kept: usize) -> usize
     requires { kept + block_size ≤ length input.old }
     ensures input_unchanged { take kept input.new ≡ take kept input.old }
     ensures result_in_bounds { kept + result ≤ length input.new }
     ensures result_bound { kept + result < 2 ^ 64 }
 {
-    let got = libc::read(STDIN_FILENO, &mut input[kept..]);
-    io::count(got, &input[kept..])
+    let mut stdin = rt.stdin();
+    match stdin.read(&mut input[kept..]) {
+        Ok(got) => got,
+        Err(_) => 0,
+    }
 }
 
 // Whether a read of the input can wait: a file's cannot, a pipe's can.
-pub fn can_wait() -> bool {
-    libc::lseek(STDIN_FILENO, 0, SEEK_CUR) < 0
+pub fn can_wait(rt: &HostRuntime) -> bool {
+    match fs::metadata(rt, "/dev/stdin") {
+        Ok(input) => !input.is_file(),
+        Err(_) => true,
+    }
 }
 
 // Keeps what is left of n bytes from `at` on, at the front, and answers how many bytes that is.

@@ -14,6 +14,7 @@ use input::INPUT_SIZE;
 use ledger::{Caps, HEADER_SIZE, LINE_SIZE, ROW_SIZE};
 use output::OUTPUT_SIZE;
 use repository::LARGEST_CAPACITY;
+use std::rt::HostRuntime;
 
 // The rows of the day's ledger, and the cap of every asset class.
 const ROWS: usize = 340;
@@ -39,10 +40,10 @@ fn new_ledger() -> [u8; LEDGER_SIZE]
     ledger
 }
 
-fn main() {
+fn main(rt: HostRuntime) {
     let mut ledger = new_ledger();
     let mut tape = [0u8; LINE_SIZE];
     let mut input = [0u8; INPUT_SIZE];
     let mut out = [0u8; OUTPUT_SIZE];
-    run::run(&mut ledger, &mut tape, &mut input, &mut out);
+    run::run(&rt, &mut ledger, &mut tape, &mut input, &mut out);
 }

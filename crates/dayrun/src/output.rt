@@ -5,8 +5,9 @@ ghost use Rattle.dayrun.specs.Progress.{write_size, written};
 
 use crate::judging::Progress;
 use day::LONGEST_LINE;
-use libc::STDOUT_FILENO;
 use octets::part_of;
+use std::io::Write;
+use std::rt::HostRuntime;
 
 // As many bytes are written at a time.
 pub const WRITE_SIZE: usize = 32_768;
@@ -20,11 +21,17 @@ pub fn waiting<'a>(out: &'a [u8], used: usize) -> &'a [u8]
     part_of(out, 0, used)
 }
 
+// Writes bytes to standard output; false where that fails.
+pub fn write_all(rt: &HostRuntime, s: &[u8]) -> bool {
+    let mut stdout = rt.stdout();
+    stdout.write_all(s).is_ok()
+}
+
 // Writes out what waits.
-pub fn write_out(out: &[u8], p: Progress) -> Progress
+pub fn write_out(rt: &HostRuntime, out: &[u8], p: Progress) -> Progress
     ensures { result ≡ written true result.is_open p }
 {
-    let is_written = io::write_all(STDOUT_FILENO, waiting(out, p.used));
+    let is_written = write_all(rt, waiting(out, p.used));
     Progress {
         at: p.at,
         used: 0,
@@ -35,11 +42,11 @@ pub fn write_out(out: &[u8], p: Progress) -> Progress
 }
 
 // Writes out what waits where there is enough of it.
-pub fn write_enough(out: &[u8], p: Progress) -> Progress
+pub fn write_enough(rt: &HostRuntime, out: &[u8], p: Progress) -> Progress
     ensures { result ≡ written (leb write_size p.used) result.is_open p }
 {
     if WRITE_SIZE <= p.used {
-        return write_out(out, p);
+        return write_out(rt, out, p);
     }
     p
 }

@@ -11,9 +11,10 @@ ghost use Rattle.dayrun.specs.Progress.{write_size, block_size, JudgedUpTo, With
 
 use crate::input::{can_wait, keep_rest, read_block};
 use crate::judging::{Progress, judge_next};
-use crate::output::{waiting, write_enough, write_out};
+use crate::output::{waiting, write_all, write_enough, write_out};
 use day::{write_heading, write_last};
 use octets::part_of;
+use std::rt::HostRuntime;
 
 // The messages that are judged at most, and the reads; no input reaches them.
 const MOST_MESSAGES: u64 = 1_000_000_000_000_000_000;
@@ -40,18 +41,19 @@ fn start(out: &mut [u8]) -> Progress
 }
 
 // Adds the last line, behind so many bytes of a message that is not whole, and writes out what waits.
-fn finish(out: &mut [u8], p: Progress, kept: usize)
+fn finish(rt: &HostRuntime, out: &mut [u8], p: Progress, kept: usize)
     requires { p.used + longest_line ≤ length out.old }
     ensures { out.new ≡ choose p.is_open (splice out.old p.used (last_line (ltb 0 kept) p.judged p.published)) out.old }
 {
     if p.is_open {
         let used = write_last(out, p.used, 0 < kept, p.judged, p.published);
-        io::write_all(libc::STDOUT_FILENO, waiting(out, used));
+        write_all(rt, waiting(out, used));
     }
 }
 
 // Judges the messages that are whole.
 fn judge_block(
+    rt: &HostRuntime,
     ledger: &mut [u8],
     tape: &mut [u8],
     input: &[u8],
@@ -73,7 +75,7 @@ fn judge_block(
         if p.at == before {
             return p;
         }
-        p = write_enough(out, p);
+        p = write_enough(rt, out, p);
     }
     p
 }
@@ -92,37 +94,37 @@ fn from_front(p: Progress) -> Progress
 }
 
 // Writes out what waits where the next read can wait.
-fn before_read(out: &[u8], waits: bool, p: Progress) -> Progress
+fn before_read(rt: &HostRuntime, out: &[u8], waits: bool, p: Progress) -> Progress
     ensures { result ≡ written waits result.is_open p }
 {
     if waits {
-        return write_out(out, p);
+        return write_out(rt, out, p);
     }
     p
 }
 
 // Reads and judges block by block until the input ends.
-pub fn run(ledger: &mut [u8], tape: &mut [u8], input: &mut [u8], out: &mut [u8])
+pub fn run(rt: &HostRuntime, ledger: &mut [u8], tape: &mut [u8], input: &mut [u8], out: &mut [u8])
     requires tape_value { lent_of ledger.old tape.old ≡ new_day.lent }
     requires block_size_in_bounds { longest_frame + block_size ≤ length input.old }
     requires longest_line_in_bounds { write_size + longest_line ≤ length out.old }
 {
-    let waits = can_wait();
+    let waits = can_wait(rt);
     let mut p = start(out);
     let mut kept: usize = 0;
     let mut reads = MOST_READS;
     while 0 < reads && p.is_open && p.judged < MOST_MESSAGES {
-        p = before_read(out, waits, p);
-        let got = read_block(input, kept);
+        p = before_read(rt, out, waits, p);
+        let got = read_block(rt, input, kept);
         if got == 0 {
-            finish(out, p, kept);
+            finish(rt, out, p, kept);
             return;
         }
         let n = kept + got;
-        p = judge_block(ledger, tape, part_of(input, 0, n), out, p);
+        p = judge_block(rt, ledger, tape, part_of(input, 0, n), out, p);
         kept = keep_rest(input, p.at, n);
         p = from_front(p);
         reads -= 1;
     }
-    finish(out, p, LEFT_OVER);
+    finish(rt, out, p, LEFT_OVER);
 }

@@ -6,7 +6,7 @@ use Rattle.dayrun.proofs.main.Statement.{statement}
 use Rattle.dayrun.proofs.main.Tie as tie
 
 run-requires : tie.Need-run-requires
-run-requires c κs = (ap (λ l. lent_of l _) c.before.before.before.before.new-ledger.ensures.0, search rules)
+run-requires c κs = (ap (λ l. lent_of l _) c.new_ledger-ledger.ensures.0, search rules)
 
 pub main_spec : {M : Type 1} → statement M
 main_spec =

@@ -22,97 +22,90 @@ use Rattle.dayrun.proofs.ProgressLaws.{progress_is, line_is, unmoved, one_furthe
 use Rattle.dayrun.proofs.judging.judge_next.Statement.{statement}
 use Rattle.dayrun.proofs.judging.judge_next.Tie as tie
 
-abbrev start : tie.After-next-frame → tie.Start
+abbrev start : tie.After-next_frame → tie.Start
 start c = c.before.before.before.before.before.before
 
 -- what is left of the input
-abbrev rest : tie.After-next-frame → Bytes
+abbrev rest : tie.After-next_frame → Bytes
 rest c = drop (start c).args.p.at (start c).args.input.now
 
 -- the slice that is lent of it is all of it
 all_lent : (xs : Bytes) (at : ℕ) → take (length xs - at) (drop at xs) ≡ drop at xs
 all_lent xs at = take_all (length xs - at) (drop at xs) (omega (arith, length-drop at xs))
 
-front : (c : tie.After-next-frame) → c.next-frame.result ≡ frame_of document_limits.longest (rest c)
-front c = c.next-frame.ensures.0 ∙ ap (frame_of document_limits.longest) (all_lent (start c).args.input.now (start c).args.p.at)
+front : (c : tie.After-next_frame) → c.next_frame.result ≡ frame_of document_limits.longest (rest c)
+front c = c.next_frame.ensures.0 ∙ ap (frame_of document_limits.longest) (all_lent (start c).args.input.now (start c).args.p.at)
 
-fits : (c : tie.After-next-frame) → WithinInput (rest c) c.next-frame.result
-fits c = subst (λ (xs : Bytes). WithinInput xs c.next-frame.result) (all_lent (start c).args.input.now (start c).args.p.at) c.next-frame.ensures.1
+fits : (c : tie.After-next_frame) → WithinInput (rest c) c.next_frame.result
+fits c = subst (λ (xs : Bytes). WithinInput xs c.next_frame.result) (all_lent (start c).args.input.now (start c).args.p.at) c.next_frame.ensures.1
 
 -- the message, or the one that is too long, lies within the input
 lies_within : (xs : Bytes) (at n : ℕ) → at ≤ length xs → n ≤ length (drop at xs) → at + n ≤ length xs
 lies_within xs at n h l = omega (arith, h, l, length-drop at xs)
 
-message_fits : (c : tie.After-n) → (start c.before.before).args.p.at + (length_size + c.n.given.0.0) ≤ length (start c.before.before).args.input.now
-message_fits c = lies_within _ _ _ (start c.before.before).requires.0 (subst (WithinInput (rest c.before.before)) c.n.given.1 (fits c.before.before))
+message_fits : (c : tie.In-Message) → (start c.before).args.p.at + (length_size + c.in-Message.n) ≤ length (start c.before).args.input.now
+message_fits c = lies_within _ _ _ (start c.before).requires.0 (subst (WithinInput (rest c.before)) c.in-Message.is (fits c.before))
 
-overlong_fits : (c : tie.After-n2) → (start c.before.before).args.p.at + (length_size + c.n2.given.0.0) ≤ length (start c.before.before).args.input.now
-overlong_fits c = lies_within _ _ _ (start c.before.before).requires.0 (subst (WithinInput (rest c.before.before)) c.n2.given.1 (fits c.before.before))
+overlong_fits : (c : tie.In-Overlong) → (start c.before).args.p.at + (length_size + c.in-Overlong.n) ≤ length (start c.before).args.input.now
+overlong_fits c = lies_within _ _ _ (start c.before).requires.0 (subst (WithinInput (rest c.before)) c.in-Overlong.is (fits c.before))
 
-add-report : tie.Need-overflow-add-report
-add-report c = omega (arith, message_fits c.before.before.before.before.before.before.before.before.before.before)
+add-report : tie.Need-overflow_add-n
+add-report c = omega (arith, message_fits c.before.before.before.before.before.before.before.before.before)
 
 report-requires : tie.Need-report-requires
-report-requires c κs = (omega (arith, message_fits c.before.before.before.before.before.before.before.before.before.before), search rules)
+report-requires c κs = (omega (arith, message_fits c.before.before.before.before.before.before.before.before.before), search rules)
 
-add-report-2 : tie.Need-overflow-add-report-2
-add-report-2 c = omega (arith, overlong_fits c.before.before)
+add-report-2 : tie.Need-overflow_add-n-in-Overlong
+add-report-2 c = omega (arith, overlong_fits c.before)
 
-report-requires-2 : tie.Need-report-requires-2
-report-requires-2 c κs = (omega (arith, overlong_fits c.before.before.before), search rules)
+report-requires-2 : tie.Need-report-requires-in-Overlong
+report-requires-2 c κs = (omega (arith, overlong_fits c.before.before), search rules)
 
-returns : tie.Need-returns
+returns : tie.Need-returns-in-Message
 returns c =
-    let r = c.before.before in
-    let k = r.before.before.before.before.before.before in
-    let m = k.before.before.before in
-    let n = m.before.before in
-    let f = n.before.before in
+    let f = c.before.before.before.before.before.before.before.before.before.before.before.before.before in
     let a = (start f).args in
-    let size = n.n.given.0.0 in
+    let size = c.in-Message.n in
     let judged : Bytes → Submitted = λ x. submitted document_limits (lent_of a.ledger.now a.tape.now) x in
-    let sent : m.part_of.result.now ≡ part (rest f) length_size size =
-    m.part_of.ensures.0 ∙ ap (λ (xs : Bytes). part xs length_size size) (all_lent a.input.now a.p.at) in
+    let sent : c.part_of-m.result.now ≡ part (rest f) length_size size =
+    c.part_of-m.ensures.0 ∙ ap (λ (xs : Bytes). part xs length_size size) (all_lent a.input.now a.p.at) in
     let ensured : step_at (lent_of a.ledger.now a.tape.now) a.input.now a.p ≡ answered (day_of (lent_of a.ledger.now a.tape.now) a.p) size (judged (part (rest f) length_size size)) =
-    step_on_lem _ (rest f) (Message size) (sym (front f) ∙ n.n.given.1) in
-    let same : k.submit.result ≡ submission_answer (judged (part (rest f) length_size size)) = k.submit.ensures.0 ∙ ap (λ (x : Bytes). submission_answer (judged x)) sent in (
-      r.report.ensures.0 ∙ progress_is _ (rest f) a.p size _ ensured _ same,
+    step_on_lem _ (rest f) (Message size) (sym (front f) ∙ c.in-Message.is) in
+    let same : c.submit-a.result ≡ submission_answer (judged (part (rest f) length_size size)) = c.submit-a.ensures.0 ∙ ap (λ (x : Bytes). submission_answer (judged x)) sent in (
+      c.report.ensures.0 ∙ progress_is _ (rest f) a.p size _ ensured _ same,
       (
-        r.report.ensures.1.0 ∙ ap (splice a.out.now a.p.used) (line_is _ (rest f) a.p size _ ensured _ same),
+        c.report.ensures.1.0 ∙ ap (splice a.out.now a.p.used) (line_is _ (rest f) a.p size _ ensured _ same),
         (
-          k.submit.ensures.1 ∙ ap (λ (x : Bytes). (judged x).lent) sent ∙ ap (λ (x : Step). x.after.lent) (sym ensured),
-          (one_further _ (length_size + size) a.p _ (message_fits n) (omega arith) (start f).requires.1.1.1 r.report.ensures.1.1, judged_at_once),
+          c.submit-a.ensures.1 ∙ ap (λ (x : Bytes). (judged x).lent) sent ∙ ap (λ (x : Step). x.after.lent) (sym ensured),
+          (one_further _ (length_size + size) a.p _ (message_fits c.before.before.before.before.before.before.before.before.before.before.before.before) (omega arith) (start f).requires.1.1.1 c.report.ensures.1.1, judged_at_once),
         ),
       ),
     )
 
-returns-2 : tie.Need-returns-2
+returns-2 : tie.Need-returns-in-Overlong
 returns-2 c =
-    let r = c.before.before in
-    let k = r.before in
-    let n = k.before.before.before in
-    let f = n.before.before in
+    let f = c.before.before.before.before.before.before in
     let a = (start f).args in
-    let size = n.n2.given.0.0 in
+    let size = c.in-Overlong.n in
     let ensured : step_at (lent_of a.ledger.now a.tape.now) a.input.now a.p ≡ answered (day_of (lent_of a.ledger.now a.tape.now) a.p) size (refused (layout_wrong, 0) (lent_of a.ledger.now a.tape.now)) =
-    step_on_lem _ (rest f) (Overlong size) (sym (front f) ∙ n.n2.given.1) in (
-      r.report2.ensures.0 ∙ progress_is _ (rest f) a.p size _ ensured _ k.refusal.ensures,
+    step_on_lem _ (rest f) (Overlong size) (sym (front f) ∙ c.in-Overlong.is) in (
+      c.report-in-Overlong.ensures.0 ∙ progress_is _ (rest f) a.p size _ ensured _ c.refusal.ensures,
       (
-        r.report2.ensures.1.0 ∙ ap (splice a.out.now a.p.used) (line_is _ (rest f) a.p size _ ensured _ k.refusal.ensures),
+        c.report-in-Overlong.ensures.1.0 ∙ ap (splice a.out.now a.p.used) (line_is _ (rest f) a.p size _ ensured _ c.refusal.ensures),
         (
           ap (λ (x : Step). x.after.lent) (sym ensured),
-          (one_further _ (length_size + size) a.p _ (overlong_fits n) (omega arith) (start f).requires.1.1.1 r.report2.ensures.1.1, judged_at_once),
+          (one_further _ (length_size + size) a.p _ (overlong_fits c.before.before.before.before.before) (omega arith) (start f).requires.1.1.1 c.report-in-Overlong.ensures.1.1, judged_at_once),
         ),
       ),
     )
 
-returns-3 : tie.Need-returns-3
+returns-3 : tie.Need-returns-in-Partial
 returns-3 c =
-    let f = c.before.before in
+    let f = c.before in
     let a = (start f).args in
     let ensured : step_at (lent_of a.ledger.now a.tape.now) a.input.now a.p ≡ step_on (day_of (lent_of a.ledger.now a.tape.now) a.p) (rest f) Partial =
-    step_on_lem _ (rest f) Partial (sym (front f) ∙ c.enum_told.given.1) in
-    let short : length (rest f) < longest_frame = subst (WithinInput (rest f)) c.enum_told.given.1 (fits f) in (
+    step_on_lem _ (rest f) Partial (sym (front f) ∙ c.in-Partial.is) in
+    let short : length (rest f) < longest_frame = subst (WithinInput (rest f)) c.in-Partial.is (fits f) in (
       unmoved (lent_of a.ledger.now a.tape.now) (rest f) a.p ∙ ap (progress_after a.p) (sym ensured),
       (
         sym (splice_none a.out.now a.p.used) ∙ ap (λ (x : Step). splice a.out.now a.p.used x.line) (sym ensured),

@@ -9,12 +9,11 @@ use Rattle.dayrun.proofs.judging.report.Tie as tie
 
 returns : tie.Need-returns
 returns c =
-    let w = c.before.before.before.before.before in
-    let p = w.before.before.before.before.args.p in
-    let taken = w.before.before.before.before.args.taken in
+    let p = c.args.p in
+    let taken = c.args.taken in
     let row : ℕ → ℕ → Progress = λ used lines. record { at = p.at + taken; used = used; judged = p.judged + 1; published = p.published + lines; is_open = p.is_open } in (
-      ap (λ (u : ℕ). row u c.before.lines_of.result) w.write-line.ensures.0.place ∙ ap (row _) c.before.lines_of.ensures.0,
-      (w.write-line.ensures.0.bytes, (refl, w.write-line.ensures.1, refl, omega arith)),
+      ap (λ (u : ℕ). row u c.lines_of.result) c.write_line-used.ensures.0.place ∙ ap (row _) c.lines_of.ensures.0,
+      (c.write_line-used.ensures.0.bytes, (refl, c.write_line-used.ensures.1, refl, omega arith)),
     )
 
 pub report_spec : {M : Type 1} → statement M

@@ -3,13 +3,12 @@ use borrow.Author.Rules.{rules}
 use Rattle.dayrun.proofs.run.finish.Statement.{statement}
 use Rattle.dayrun.proofs.run.finish.Tie as tie
 
-returns : tie.Need-returns
+returns : tie.Need-returns-then-p
 returns c =
-    let w = c.before.before.before.before.before in
-    rw w.before.before.if1.true w.write-last.ensures.0.bytes
+    rw c.if-p.true c.write_last-used.ensures.0.bytes
 
-returns-2 : tie.Need-returns-2
-returns-2 c = rw c.if1.false
+returns-2 : tie.Need-returns-else-p
+returns-2 c = rw c.if-p.false
 
 pub finish_spec : {M : Type 1} → statement M
 finish_spec =

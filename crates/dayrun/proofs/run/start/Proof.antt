@@ -10,7 +10,7 @@ use Rattle.dayrun.proofs.run.start.Tie as tie
 
 returns : tie.Need-returns
 returns c =
-    let put = c.before.before.write-heading.ensures.0 in
+    let put = c.write_heading-used.ensures.0 in
     let row : ℕ → Progress = λ used. record { at = 0; used = used; judged = 0; published = 0; is_open = true } in
     (ap row (put.place ∙ zero-add _), put.bytes)
 
