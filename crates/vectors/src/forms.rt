@@ -1,6 +1,8 @@
 // The forms of values, by their place in the list of words.
 use crate::hex;
 use repository::LONGEST_MESSAGE;
+use std::io;
+use std::io::Write;
 
 pub const COUNT: usize = 18;
 
@@ -12,8 +14,8 @@ pub fn place(word: &[u8]) -> usize {
     )
 }
 
-pub fn answer(place: usize, v: &[u8]) {
-    hex::say_test(has_form(place, v));
+pub fn answer(out: &mut impl Write, place: usize, v: &[u8]) -> io::Result<()> {
+    hex::say_test(out, has_form(place, v))
 }
 
 fn has_form(place: usize, v: &[u8]) -> bool {

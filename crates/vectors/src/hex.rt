@@ -1,21 +1,21 @@
 // Text out, and hexadecimal in and out.
 ghost use Rattle.std.specs.Prelude.{◌<◌, ◌≤◌, length};
 
-use libc::STDOUT_FILENO;
+use std::io;
+use std::io::Write;
 
 // The most bytes that a line has in hexadecimal.
 pub const LONGEST: usize = 4096;
 
-pub fn say(s: &[u8]) {
-    io::write_all(STDOUT_FILENO, s);
+pub fn say(out: &mut impl Write, s: &[u8]) -> io::Result<()> {
+    out.write_all(s)
 }
 
-pub fn say_test(b: bool) {
+pub fn say_test(out: &mut impl Write, b: bool) -> io::Result<()> {
     if b {
-        say(b"yes");
-        return;
+        return say(out, b"yes");
     }
-    say(b"no");
+    say(out, b"no")
 }
 
 // The number of a hexadecimal digit.
@@ -54,30 +54,29 @@ pub fn decode(text: &[u8], out: &mut [u8]) -> usize
     n
 }
 
-fn say_digit(n: u8)
+fn say_digit(out: &mut impl Write, n: u8) -> io::Result<()>
     requires { n < 16 }
 {
     if n < 10 {
-        say(&[b'0' + n]);
-        return;
+        return say(out, &[b'0' + n]);
     }
-    say(&[b'a' + (n - 10)]);
+    say(out, &[b'a' + (n - 10)])
 }
 
-fn say_byte(b: u8) {
-    say_digit(b / 16);
-    say_digit(b % 16);
+fn say_byte(out: &mut impl Write, b: u8) -> io::Result<()> {
+    say_digit(out, b / 16)?;
+    say_digit(out, b % 16)
 }
 
 // The bytes in hexadecimal, or - where there are none.
-pub fn say_hex(s: &[u8]) {
+pub fn say_hex(out: &mut impl Write, s: &[u8]) -> io::Result<()> {
     if s.len() == 0 {
-        say(b"-");
-        return;
+        return say(out, b"-");
     }
     let mut i: usize = 0;
     while i < s.len() {
-        say_byte(s[i]);
+        say_byte(out, s[i])?;
         i += 1;
     }
+    Ok(())
 }

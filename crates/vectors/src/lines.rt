@@ -3,6 +3,8 @@ use crate::fields::{field_at, number_at};
 use crate::hex;
 use notional::LARGEST_CAP;
 use octets::part_of;
+use std::io;
+use std::io::Write;
 
 pub const COUNT: usize = 3;
 
@@ -11,33 +13,33 @@ pub fn place(word: &[u8]) -> usize {
     crate::word_place(word, b"cap shown masked")
 }
 
-pub fn answer(place: usize, rest: &[u8]) {
+pub fn answer(out: &mut impl Write, place: usize, rest: &[u8]) -> io::Result<()> {
     match place {
-        0 => hex::say_test(notional::is_cap(number_at(rest, 0))),
-        1 => say_price(rest),
-        _ => say_masked(rest),
+        0 => hex::say_test(out, notional::is_cap(number_at(rest, 0))),
+        1 => say_price(out, rest),
+        _ => say_masked(out, rest),
     }
 }
 
 // The price without its padding.
-fn say_price(v: &[u8]) {
-    let mut out = [0u8; terms::PRICE_SIZE];
-    price::write_price(&mut out, v);
-    hex::say(part_of(&out, 0, crate::place_of(&out, b' ')));
+fn say_price(out: &mut impl Write, v: &[u8]) -> io::Result<()> {
+    let mut text = [0u8; terms::PRICE_SIZE];
+    price::write_price(&mut text, v);
+    hex::say(out, part_of(&text, 0, crate::place_of(&text, b' ')))
 }
 
 // The rest is a cap, a space and an amount.
-fn say_masked(rest: &[u8]) {
+fn say_masked(out: &mut impl Write, rest: &[u8]) -> io::Result<()> {
     let cap = number_at(rest, 0);
     if LARGEST_CAP < cap {
-        hex::say(b"?");
-        return;
+        return hex::say(out, b"?");
     }
     let masked = notional::mask(field_at(rest, 1), cap);
-    let mut out = [0u8; terms::NOTIONAL_SIZE];
-    octets::write_digits(&mut out, masked.units);
-    hex::say(&out);
+    let mut text = [0u8; terms::NOTIONAL_SIZE];
+    octets::write_digits(&mut text, masked.units);
+    hex::say(out, &text)?;
     if masked.plus {
-        hex::say(b"+");
+        return hex::say(out, b"+");
     }
+    Ok(())
 }

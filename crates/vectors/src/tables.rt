@@ -2,6 +2,8 @@
 // is asked of.
 use crate::hex;
 use octets::{byte_at, part_of};
+use std::io;
+use std::io::Write;
 
 pub const COUNT: usize = 2;
 
@@ -15,25 +17,22 @@ pub fn place(word: &[u8]) -> usize {
     crate::word_place(word, b"pair step")
 }
 
-pub fn answer(place: usize, rest: &[u8]) {
+pub fn answer(out: &mut impl Write, place: usize, rest: &[u8]) -> io::Result<()> {
     let read = actions::read_action(part_of(rest, 0, ACTION));
     let actions::Checked::Value(a) = read else {
-        hex::say(b"?");
-        return;
+        return hex::say(out, b"?");
     };
     let asked = part_of(rest, ACTION + 1, rest.len());
     if place == STEP {
-        say_status(actions::status_after(a, byte_at(asked, 0) % 16));
-        return;
+        return say_status(out, actions::status_after(a, byte_at(asked, 0) % 16));
     }
-    hex::say_test(actions::is_pair(a, asked));
+    hex::say_test(out, actions::is_pair(a, asked))
 }
 
 // A status, or - where no step exists.
-fn say_status(status: u8) {
+fn say_status(out: &mut impl Write, status: u8) -> io::Result<()> {
     if status == 0 {
-        hex::say(b"-");
-        return;
+        return hex::say(out, b"-");
     }
-    hex::say(&[b'0' + status % 10]);
+    hex::say(out, &[b'0' + status % 10])
 }
