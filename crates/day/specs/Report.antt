@@ -54,11 +54,11 @@ report_line position verdict element identifier =
 
 -- "end" or, where input stops inside a length or message, "cut"
 abbrev pub last_word : Bool → Bytes
-last_word isCut = choose isCut (text "cut") (text "end")
+last_word is_cut = choose is_cut (text "cut") (text "end")
 
 -- the last line: the word, then messages judged, then lines published
 unfoldable pub last_line : Bool → ℕ → ℕ → Bytes
-last_line isCut judged published = line (last_word isCut ∷ decimal judged ∷ decimal published ∷ [])
+last_line is_cut judged published = line (last_word is_cut ∷ decimal judged ∷ decimal published ∷ [])
 
 -- the most bytes of a line: four numbers, each with the byte behind it
 abbrev pub longest_line : ℕ

@@ -170,8 +170,8 @@ module _ {lent₀ : Lent} {input out₀ : Bytes} {p₀ : Progress} {lent lent' :
         ∙ ap (choose (leb write_size r.used) []) added
         ∙ ap (λ (j : ℕ). choose (leb write_size j) [] (part out 0 p.used ++ (step_at lent input p).line)) size
 
-    pub judged_more : (w : Progress) (isOpen : Bool) → p.at < r.at → w ≡ written (leb write_size r.used) isOpen r → JudgedUpTo lent₀ input out₀ p₀ lent' out' w
-    judged_more w isOpen h e =
+    pub judged_more : (w : Progress) (is_open : Bool) → p.at < r.at → w ≡ written (leb write_size r.used) is_open r → JudgedUpTo lent₀ input out₀ p₀ lent' out' w
+    judged_more w is_open h e =
         let k : ℕ = p.judged - p₀.judged in
         let d : Day = day_of lent₀ p₀ in
         let xs : Bytes = drop p₀.at input in

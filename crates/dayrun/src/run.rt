@@ -64,7 +64,7 @@ fn judge_block(
     requires longest_line_in_bounds { write_size + longest_line ≤ length out.old }
     ensures judged_up_to { JudgedUpTo (lent_of ledger.old tape.old) input.now out.old start
         (lent_of ledger.new tape.new) out.new result }
-    ensures within_2 { Within (length input.now) write_size result }
+    ensures within_after { Within (length input.now) write_size result }
     ensures leaves { Leaves input.now result }
     ensures nothing_lost { NothingLost }
 {

@@ -27,15 +27,15 @@ full_up_to a full = up_to a is_taken by
     by All e = refl
     by Full e = full
 
-abbrev pub byAll : Kinds → Bool
-byAll None = false
-byAll All = true
-byAll Full = false
+abbrev pub by_all : Kinds → Bool
+by_all None = false
+by_all All = true
+by_all Full = false
 
-pub short_up_to : (a : Action) (n : ℕ) → all_from (λ code. byAll (element_of code).taken) 1 n ≡ true → TakenUpTo a n
-short_up_to a = up_to a byAll by
+pub short_up_to : (a : Action) (n : ℕ) → all_from (λ code. by_all (element_of code).taken) 1 n ≡ true → TakenUpTo a n
+short_up_to a = up_to a by_all by
   where
-    by : (k : Kinds) → byAll k ≡ true → is_among k a ≡ true
+    by : (k : Kinds) → by_all k ≡ true → is_among k a ≡ true
     by None e = absurd (false≢true e)
     by All e = refl
     by Full e = absurd (false≢true e)

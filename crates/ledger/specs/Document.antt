@@ -45,11 +45,11 @@ pub record DocumentSizes : Type 0 where
   pub header : (caps : Caps) (capacity : ℕ) → places 0 (header_fields caps capacity) ≡ header_places
   pub row : (status : ℕ) (u : Bytes) (identifier : ℕ) (terms : Bytes) → places 0 (row_fields status u identifier terms) ≡ row_places
   -- the fields that are read, by their names
-  pub headerNames :
+  pub header_names :
       (rows_at, u32) ∷ (first_row_at, u32) ∷ (next_at, u64) ∷ (cap_at 0, u64)
       ∷ (cap_at 1, u64) ∷ (cap_at 2, u64) ∷ (cap_at 3, u64) ∷ (cap_at 4, u64) ∷ (row_size_at, u32) ∷ (capacity_at, u32)
       ∷ (total_at live, u32) ∷ (total_at closed, u32) ∷ (total_at errored, u32) ∷ (total_at ported, u32) ∷ [] ≡ header_places
-  pub rowNames :
+  pub row_names :
       (status_at, u8) ∷ (length_at, u8) ∷ (uti_at, uti_size) ∷ (identifier_at, u64) ∷ (terms_at, terms_size) ∷ (tail_at, tail_size) ∷ [] ≡ row_places
   -- the header has a cap for each asset class that code 25 admits, in this order
   pub classes : (caps : Caps) → map (λ c. c.0) (class_caps caps) ≡ asset_classes

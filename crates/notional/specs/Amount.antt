@@ -5,11 +5,11 @@ use Rattle.octets.specs.Bytes.{Bytes}
 use Rattle.octets.specs.Choice.{choose}
 use Rattle.values.specs.Run.{in_class}
 use Rattle.values.specs.declared.run.Class.TheVariants.{Digit}
-use Rattle.numbers.specs.Numbers.{whole_of, decimals_of, notionalDecimals}
+use Rattle.numbers.specs.Numbers.{whole_of, decimals_of, notional_decimals}
 
 -- a unit of the notional currency, in units of 10^-5
 abbrev pub unit : ℕ
-unit = 10 ^ notionalDecimals
+unit = 10 ^ notional_decimals
 
 -- the number of a digit; what is no digit counts 0
 unfoldable pub digit : ℕ → ℕ
@@ -22,7 +22,7 @@ spelled n (b ∷ v) = spelled (n * 10 + digit b) v
 
 -- what stands after the point, in units of 10^-5; decimals that are not sent count 0
 unfoldable pub fraction : Bytes → ℕ
-fraction v = spelled 0 (take notionalDecimals (decimals_of v ++ replicate notionalDecimals (code "0")))
+fraction v = spelled 0 (take notional_decimals (decimals_of v ++ replicate notional_decimals (code "0")))
 
 -- the exact amount, in units of 10^-5
 unfoldable pub amount : Bytes → ℕ

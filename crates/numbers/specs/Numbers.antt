@@ -15,11 +15,11 @@ abbrev pub price_decimals : ℕ
 price_decimals = 13
 
 -- code 20: Num(25,5)
-abbrev pub notionalDigits : ℕ
-notionalDigits = 25
+abbrev pub notional_digits : ℕ
+notional_digits = 25
 
-abbrev pub notionalDecimals : ℕ
-notionalDecimals = 5
+abbrev pub notional_decimals : ℕ
+notional_decimals = 5
 
 -- the place of the first point, or the length where there is none
 unfoldable pub point_in : Bytes → ℕ
@@ -54,4 +54,4 @@ is_price v = is_number price_digits price_decimals (unsigned_of v)
 
 -- code 20: Num(25,5), no minus
 abbrev pub is_notional : Bytes → Bool
-is_notional v = is_number notionalDigits notionalDecimals v
+is_notional v = is_number notional_digits notional_decimals v

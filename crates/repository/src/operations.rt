@@ -22,7 +22,7 @@ use rules::FORM_BROKEN;
 // Writes the header of a new ledger and answers 0, or answers the verdict and writes nothing.
 pub fn open(l: &mut [u8], caps: Caps, largest: u32) -> u8
     ensures by_index { (longest : ℕ) → result ≡ (opened (limits_of longest largest) caps l.old).verdict }
-    ensures by_index_2 { (longest : ℕ) → l.new ≡ (opened (limits_of longest largest) caps l.old).ledger }
+    ensures ledger_after { (longest : ℕ) → l.new ≡ (opened (limits_of longest largest) caps l.old).ledger }
 {
     let n = l.len();
     if n < SHORTEST_LEDGER {
@@ -82,7 +82,7 @@ pub fn status(l: &[u8], uti: &[u8], largest: u32) -> Answer
 // The totals by status as they are stored, or a verdict and zeros.
 pub fn totals(l: &[u8], dst: &mut [u32; TOTALS], largest: u32) -> u8
     ensures by_index { (longest : ℕ) → result ≡ (asked_totals (limits_of longest largest) l.now).verdict }
-    ensures by_index_2 { (longest : ℕ) → dst.new ≡ (asked_totals (limits_of longest largest) l.now).totals }
+    ensures totals_after { (longest : ℕ) → dst.new ≡ (asked_totals (limits_of longest largest) l.now).totals }
 {
     let HeaderCheck::Value(header) = read_header(l, largest) else {
         *dst = [0; TOTALS];

@@ -16,7 +16,7 @@ use Rattle.elements.specs.Codes.{event_type, reporting_timestamp, execution_time
 use Rattle.elements.specs.Forms.{has_form}
 use Rattle.elements.specs.Conditions.{is_package, value_is, is_quoted, facts_of, is_due}
 use Rattle.elements.specs.declared.conditions.Facts.{Facts}
-use Rattle.rules.specs.Verdicts.{layout_wrong, action_wrong, element_missing, element_not_taken, form_broken, not_aPair, conditional_missing, price_and_spread, price_too_long, dates_disordered}
+use Rattle.rules.specs.Verdicts.{layout_wrong, action_wrong, element_missing, element_not_taken, form_broken, not_a_pair, conditional_missing, price_and_spread, price_too_long, dates_disordered}
 use Rattle.rules.specs.Findings.{Finding, passed, broken, lowest, Rule, test, naming, first_broken, from_rule}
 use Rattle.rules.specs.declared.Judged.{Judged}
 use Rattle.rules.specs.declared.Judged.TheVariants as answer
@@ -100,7 +100,7 @@ rules_of a m =
     naming element_missing (lowest (at_fault Needed a m))
     ∷ naming element_not_taken (lowest (at_fault Taken a m))
     ∷ naming form_broken (lowest (at_fault Formed a m))
-    ∷ test not_aPair (not (pair_allowed a (value event_type m)))
+    ∷ test not_a_pair (not (pair_allowed a (value event_type m)))
     ∷ naming conditional_missing (lowest (at_fault Due a m))
     ∷ test price_and_spread (has_both_quotes m)
     ∷ test price_too_long (has_long_price m)

@@ -22,8 +22,8 @@ abbrev pub form_broken : ℕ
 form_broken = 9
 
 -- Action and event, or its absence, are not a pair of the matrix.
-abbrev pub not_aPair : ℕ
-not_aPair = 10
+abbrev pub not_a_pair : ℕ
+not_a_pair = 10
 
 -- A conditional element is missing.
 abbrev pub conditional_missing : ℕ

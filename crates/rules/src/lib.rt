@@ -8,7 +8,7 @@ ghost use Rattle.std.specs.Prelude.{◌≡◌};
 ghost use Rattle.message.specs.Reading.{Laid};
 ghost use Rattle.elements.specs.Conditions.{facts_of};
 ghost use Rattle.actions.specs.declared.Checked.TheVariants.{Value};
-ghost use Rattle.rules.specs.Verdicts.{action_wrong, element_missing, element_not_taken, form_broken, not_aPair, conditional_missing, price_and_spread, price_too_long, dates_disordered};
+ghost use Rattle.rules.specs.Verdicts.{action_wrong, element_missing, element_not_taken, form_broken, not_a_pair, conditional_missing, price_and_spread, price_too_long, dates_disordered};
 ghost use Rattle.rules.specs.Rules.{action_in, verdict, judged, judged_from, judged_by, verdict_of};
 
 use actions::{ACTION_TYPE, Action, Checked};
@@ -104,7 +104,7 @@ fn judge_forms(m: &[u8], action: Action) -> Judged
 // 10
 fn judge_pair(m: &[u8], action: Action) -> Judged
     requires { Laid m.now }
-    ensures { result ≡ judged_from not_aPair (Value action) m.now }
+    ensures { result ≡ judged_from not_a_pair (Value action) m.now }
 {
     if !actions::is_pair(action, element(m, EVENT_TYPE)) {
         return Judged::Refused(NOT_A_PAIR, 0);

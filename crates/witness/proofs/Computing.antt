@@ -14,7 +14,7 @@ use Rattle.iso.specs.Lists.{iso4217, iso3166}
 use Rattle.numbers.specs.Numbers.{point_in, whole_of, decimals_of, is_number, unsigned_of, is_price}
 use Rattle.dates.specs.Dates.{fits_pattern, two_digits, leap, days_in, gregorian, names_date, is_date, is_time, before}
 use Rattle.message.specs.Layout.{u16_at, entry_right, layout_right}
-use Rattle.message.specs.Values.{entries as wholeEntries, entry_from, end_of, value_at, value, is_there}
+use Rattle.message.specs.Values.{entries as whole_entries, entry_from, end_of, value_at, value, is_there}
 use Rattle.actions.specs.Actions.{action_of}
 use Rattle.actions.specs.Matrix.{tick, pair_allowed}
 use Rattle.elements.specs.Conditions.{is_package, value_is, is_quoted, quote_of, facts_of, is_due, kept}
@@ -51,7 +51,7 @@ unfolding is_true is_false is_truth is_cleared is_allocation is_price_notation i
 forms = tt
 
 reading : Unit {0}
-unfolding u16_at entry_right layout_right wholeEntries entry_from end_of value_at value is_there action_of element_of known how_many most_entries has_layout takes needs tick pair_allowed is_package value_is is_quoted quote_of facts_of is_due kept has_form
+unfolding u16_at entry_right layout_right whole_entries entry_from end_of value_at value is_there action_of element_of known how_many most_entries has_layout takes needs tick pair_allowed is_package value_is is_quoted quote_of facts_of is_due kept has_form
 reading = tt
 
 masking : Unit {0}

@@ -8,17 +8,17 @@ use native.Mathlib.Omega.{arith}
 use borrow.Author.Rules.{rules}
 use lib.ListN.{length, get_or, take, replicate, length-append}
 use Rattle.octets.specs.Bytes.{Bytes}
-use Rattle.numbers.specs.Numbers.{notionalDecimals}
+use Rattle.numbers.specs.Numbers.{notional_decimals}
 use Rattle.notional.specs.Amount.{unit, digit, spelled, fraction}
 use Rattle.notional.proofs.AmountLaws.{spelled_more, digits_fit, digit_padded}
 use Rattle.notional.proofs.fraction_of.Statement.{statement}
 use Rattle.notional.proofs.fraction_of.Tie as tie
 
 abbrev invariant-loop : tie.invariant-loop-k
-invariant-loop v d n₀ k₀ n k = (k ≤ notionalDecimals) × (n < 10 ^ k) × (n ≡ spelled 0 (take k (d ++ replicate notionalDecimals (code "0"))))
+invariant-loop v d n₀ k₀ n k = (k ≤ notional_decimals) × (n < 10 ^ k) × (n ≡ spelled 0 (take k (d ++ replicate notional_decimals (code "0"))))
 
 abbrev decreases-loop : tie.decreases-loop-k
-decreases-loop v d n₀ k₀ n k = notionalDecimals - k
+decreases-loop v d n₀ k₀ n k = notional_decimals - k
 
 loop-holds : tie.Need-loop-k-init invariant-loop decreases-loop
 unfolding spelled
@@ -28,7 +28,7 @@ loop-holds c = search rules
 room : (c : tie.In-loop-k invariant-loop decreases-loop) → c.loop-k.n < unit
 room c =
     let l = c.loop-k in
-    let top : 10 ^ l.k ≤ 10 ^ notionalDecimals = pow-le-pow_right (omega arith) l.invariant.0 in
+    let top : 10 ^ l.k ≤ 10 ^ notional_decimals = pow-le-pow_right (omega arith) l.invariant.0 in
     omega arith
 
 mul-n : tie.Need-overflow_mul-n invariant-loop decreases-loop
@@ -41,9 +41,9 @@ loop-again : tie.Need-loop-k-preserved invariant-loop decreases-loop
 loop-again c =
     let d = c.decimals_of-d.result.now in
     let l = c.loop-k in
-    let zeros = replicate notionalDecimals (code "0") in
+    let zeros = replicate notional_decimals (code "0") in
     let h : l.k < length (d ++ zeros) = rw length-append (omega arith) in
-    let e : c.digit_of.result ≡ digit (get_or (d ++ zeros) l.k 0) = c.digit_of.ensures.0 ∙ ap digit c.byte_at.ensures ∙ sym (digit_padded d notionalDecimals l.k) in (
+    let e : c.digit_of.result ≡ digit (get_or (d ++ zeros) l.k 0) = c.digit_of.ensures.0 ∙ ap digit c.byte_at.ensures ∙ sym (digit_padded d notional_decimals l.k) in (
       omega arith,
       digits_fit l.k l.n _ l.invariant.1 c.digit_of.ensures.1,
       omega (arith, spelled_more (d ++ zeros) l.k h),
@@ -53,8 +53,8 @@ returns : tie.Need-returns invariant-loop decreases-loop
 unfolding fraction
 returns c =
     let l = c.loop-k in
-    let e : l.k ≡ notionalDecimals = omega arith in (
-      rw e at l.invariant.2 ∙ ap (λ (s : Bytes). spelled 0 (take notionalDecimals (s ++ replicate notionalDecimals (code "0")))) c.decimals_of-d.ensures,
+    let e : l.k ≡ notional_decimals = omega arith in (
+      rw e at l.invariant.2 ∙ ap (λ (s : Bytes). spelled 0 (take notional_decimals (s ++ replicate notional_decimals (code "0")))) c.decimals_of-d.ensures,
       rw e at l.invariant.1,
     )
 
