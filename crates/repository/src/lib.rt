@@ -1,5 +1,5 @@
 // The operations (specification, section 10): open a ledger, submit a message, ask the status of a swap, ask the totals. A C host reaches them through
-// include/sdr.h.
+// the crate repository_c and include/sdr.h.
 #![tactic(auto)]
 
 mod answer;
@@ -30,8 +30,7 @@ pub const LONGEST_MESSAGE: usize = 2_048;
 pub const LARGEST_CAPACITY: u32 = 100_000;
 
 // Opens a ledger with the caps of the five asset classes; answers the verdict.
-#[unsafe(no_mangle)]
-pub extern "C" fn sdr_open(
+pub fn sdr_open(
     ledger: &mut [u8],
     cap_cr: u64,
     cap_ir: u64,
@@ -55,8 +54,7 @@ pub extern "C" fn sdr_open(
 }
 
 // Submits a message; answers verdict, element and the identifier of its line in one number.
-#[unsafe(no_mangle)]
-pub extern "C" fn sdr_submit(ledger: &mut [u8], tape: &mut [u8], message: &[u8]) -> u64
+pub fn sdr_submit(ledger: &mut [u8], tape: &mut [u8], message: &[u8]) -> u64
     ensures result_value { answer_in result
         ≡ submission_answer (submitted document_limits (lent_of ledger.old tape.old) message.now) }
     ensures tape_after { lent_of ledger.new tape.new
@@ -68,8 +66,7 @@ pub extern "C" fn sdr_submit(ledger: &mut [u8], tape: &mut [u8], message: &[u8])
 }
 
 // Asks the status of a swap; answers verdict, element, status and last identifier in one number.
-#[unsafe(no_mangle)]
-pub extern "C" fn sdr_status(ledger: &[u8], uti: &[u8]) -> u64
+pub fn sdr_status(ledger: &[u8], uti: &[u8]) -> u64
     ensures result_value { answer_in result ≡ question_answer (asked document_limits ledger.now uti.now) }
     ensures question_demands { QuestionDemands }
 {
@@ -78,8 +75,7 @@ pub extern "C" fn sdr_status(ledger: &[u8], uti: &[u8]) -> u64
 }
 
 // Asks how many swaps are live, closed, errored and ported; answers the verdict. Beside a refusal the totals are 0.
-#[unsafe(no_mangle)]
-pub extern "C" fn sdr_totals(ledger: &[u8], totals: &mut [u32; TOTALS]) -> u32
+pub fn sdr_totals(ledger: &[u8], totals: &mut [u32; TOTALS]) -> u32
     ensures value { result ≡ (asked_totals document_limits ledger.now).verdict }
     ensures totals_after { totals.new ≡ (asked_totals document_limits ledger.now).totals }
     ensures totals_demands { TotalsDemands }
