@@ -2,14 +2,15 @@
 
 An edit opens with a comment, of two lines at most:
   # NAME: WORDS. Refused at FACT of PLACE.
-NAME is the function or the definition of its crate that rules the wrong answer out, written as in promises.py. FACT is the first that the prover
-refused: a need of a proof, or a law. PLACE is the function that is proved there, or the file of proofs/ without its ending. Where the first is only a step
-of a proof, the fact that the wrong answer breaks follows: ', then FACT of PLACE.'
-The logs of the last run of the gate, target/must-fail/crate/label/.log, say what was refused.
+NAME is the function or the definition of its crate that rules the wrong answer out, written as in promises.py. FACT is the first that rt names as
+refused: a goal of a proof, or a law. PLACE is the function that is proved there, or the file of proofs/ without its ending. Where the first is only a step
+of a proof, the fact that the wrong answer breaks follows: ', then FACT of PLACE.' Of each edit rt names the first fact alone, so the second is not compared.
+What the last 'rt ci' of the gate printed, target/rt.log, says what was refused.
 The rows below TITLE in the document are made from the comments. --index writes them; without it they are compared.
 """
 
 import collections
+import functools
 import itertools
 import pathlib
 import re
@@ -17,26 +18,25 @@ import sys
 import textwrap
 
 sys.dont_write_bytecode = True
-from promises import CRATES, exists
+from promises import CRATES, FUNCTION, exists
 
-LOGS = pathlib.Path("target/must-fail")
+LOG = pathlib.Path("target/rt.log")
 TITLE = "## Wrong answers that the gate tries"
 WIDTH = 160
 
 Comment = collections.namedtuple("Comment", "name words facts")
 COMMENT = r"# (\S+): (.+)\. Refused at (\S+ of \w+(?:, then \S+ of \w+)?)\."
 NAME = r"%s(::[a-z_0-9]+)+|%s/specs/[\w/]+\.antt#\S+"
-# the prover's words: an error in a written proof, one that leans on another, one about a name, and no proof where the toolchain looks for it itself
-ERROR = r"^\S*: error: .*"
-NEED = r"\S*/proofs/(?:\S*?/)??(\w+)(?:/Proof)?\.antt:\d+:\d+: error: `([^`]+)`"
-LEANS = r"was not admitted \("
-NAMELESS = r"is not in scope|that can be named from here|has no field `"
-ALONE = r"^fn (?:\w+::)*(\w+): no proof: .*`search` does not close `([^`]+)`"
+# rt's words: the first that was refused of each edit; a goal or a law of a file of proofs/, itself or by what depends on it; a goal that the toolchain's own
+# search leaves open, at the line of the function
+REFUSED = r"^rt: must-fail (\w+/[\w.-]+)\.edit: refused, as it must be: (.*)$"
+GOAL = r"\./proofs/(?:\S*?/)??(\w+)(?:/(?:Proof|Answers|Invariants))?\.antt:\d+:\d+: error: (?:\d+ declarations? that depends? on )?`([^`]+)`"
+ALONE = r"note: (src/\w+\.rt):(\d+):\d+: it is not proved that .* \(`([^`]+)`\)"
 
 
 def crates():
     """The crates, in the order of crates.txt."""
-    return re.findall(r"^(\w+):", pathlib.Path("crates.txt").read_text(encoding="utf-8"), re.M)
+    return re.findall(r"^(\w+)[^:#\n]*:", pathlib.Path("crates.txt").read_text(encoding="utf-8"), re.M)
 
 
 def edits():
@@ -54,13 +54,23 @@ def comment(edit):
     return said and Comment(*said.groups())
 
 
-def refused(log):
-    """The facts that a log has, first to last, without those that lean on another; an error of syntax or about a name stands for itself."""
-    errors = [error for error in re.findall(ERROR, log, re.M) if not re.search(LEANS, error)]
-    needs = [(error, re.match(NEED, error)) for error in errors]
-    found = ["%s of %s" % (need[2], need[1]) if need and not re.search(NAMELESS, error) else error for error, need in needs]
-    found += ["%s of %s" % (need, function) for function, need in re.findall(ALONE, log, re.M)]
-    return list(dict.fromkeys(found))
+@functools.cache
+def refusals():
+    """What rt printed of each edit that was refused."""
+    return dict(re.findall(REFUSED, LOG.read_text(encoding="utf-8"), re.M))
+
+
+def refused(edit):
+    """The fact that rt names of an edit; where it names none, what it printed."""
+    printed = refusals().get("%s/%s" % (edit.parts[1], edit.stem), "nothing that was refused")
+    goal, alone = re.match(GOAL, printed), re.match(ALONE, printed)
+    if goal:
+        return "%s of %s" % (goal[2], goal[1])
+    if alone:
+        # (an edit replaces one line by one line)
+        lines = (CRATES / edit.parts[1] / alone[1]).read_text(encoding="utf-8").splitlines()
+        return "%s of %s" % (alone[3], re.match(FUNCTION, lines[int(alone[2]) - 1])[1])
+    return printed
 
 
 def comment_faults(edit):
@@ -72,14 +82,9 @@ def comment_faults(edit):
 
 
 def log_faults(edit):
-    log = LOGS / edit.parts[1] / edit.stem / ".log"
-    if not log.is_file():
-        yield "%s: the gate's run left no log of it" % edit
-        return
-    first, *then = comment(edit).facts.split(", then ")
-    found = refused(log.read_text(encoding="utf-8"))
-    if found[:1] != [first] or not set(then) <= set(found[1:]):
-        yield "%s: its comment says 'Refused at %s', and its log has: %s" % (edit, comment(edit).facts, "; ".join(found) or "nothing that was refused")
+    first, found = comment(edit).facts.split(", then ")[0], refused(edit)
+    if found != first:
+        yield "%s: its comment says 'Refused at %s', and rt: %s" % (edit, comment(edit).facts, found)
 
 
 def row(edit):
@@ -112,8 +117,8 @@ def index_faults(document):
 
 
 def faults(document):
-    if not LOGS.is_dir():
-        return ["there is no %s: 'rt ci' and 'rt must-fail' leave the prover's logs there" % LOGS]
+    if not LOG.is_file():
+        return ["there is no %s: the gate leaves there what 'rt ci' prints" % LOG]
     return [fault for edit in edits() for fault in log_faults(edit)] + list(index_faults(document))
 
 

@@ -18,7 +18,7 @@ import sys
 CRATES = pathlib.Path("crates")
 
 USE = re.compile(r"^ *(pub |ghost )?use ([^\s{;]+?)(?:(?:\.|::)\{([^}]*)\})?(?: as ([^\s;]+))?;?\n", re.M)
-CLAUSE = re.compile(r"\b(?:requires|ensures) \{")
+CLAUSE = re.compile(r"\b(?:requires|ensures)(?: \w+)? \{")
 TEXT = r'"(?:[^"\\\n]|\\.)*"'
 IGNORED = {".antt": re.compile(TEXT + r"|(?<!\S)--[^\n]*"), ".rt": re.compile(TEXT + r"|b'(?:[^'\\]|\\.)'|//[^\n]*")}
 LABEL = re.compile(r"([{;]\s*)[^\s(){};,.]+(?=\s+=\s)")
@@ -28,8 +28,7 @@ WORD = re.compile(r"(?<![^\s(){};,⌜⌝])[^\s(){};,.⌜⌝]+")
 def in_proof(proof):
     """Whether a name, or each part of an operator, stands in a text of definitions or proofs."""
     words = set(WORD.findall(LABEL.sub(r"\1", proof)))
-    parts = {word.strip("_") for word in words}
-    return lambda name: name in words or "_" in name and all(part in parts for part in name.split("_") if part)
+    return lambda name: name in words or "◌" in name and all(part in words for part in name.split("◌") if part)
 
 
 def in_code(code):
@@ -55,7 +54,7 @@ def items(use):
     """What a line imports: each item as it is written, with the name that it gives."""
     path, names, alias = use.group(2, 3, 4)
     written = [item.strip() for item in names.split(",")] if names is not None else [alias or re.split(r"\.|::", path)[-1]]
-    return [(item, item.split(" as ")[-1]) for item in written]
+    return [(item, item.split(" as ")[-1]) for item in written if item]
 
 
 def unused(path, source):

@@ -2,7 +2,7 @@
 
 An entry opens with the number of a clause of SPECIFICATION and a title, as in '- 2.3 title' or '- Verdict 7 title'. Every clause has one entry, under the
 section of the same title and in the same order. The quotations of SPECIFICATION are lines of the named files, in a row, without the spaces at their ends.
-No document has a longer line than LONGEST_LINE bytes.
+No document has a longer line than LONGEST_LINE characters.
 
 A name stands in back quotes and is one of
   crate::module::function          a function of crates/crate/src, or a method there
@@ -15,9 +15,9 @@ Anything else in back quotes is an error, and so is a public function of a libra
 edits.py holds the rows about must-fail edits to the edits.
 
 A quotation is a block that opens with three back quotes and the name of a file, as in crate/specs/File.antt. Its lines stand in that file, one after the
-other. A statement is a definition of specs with a capital and a hyphen in its name, or one that is a whole clause of a contract. These are quoted whole,
-each with the comment above it:
-  the contract of every exported function, and of every function that cites a statement
+other. A statement is a definition of specs that is a claim of its own or one under some limits, a record of Laws, Demands or Sizes, or one that is a whole
+clause of a contract. These are quoted whole, each with the comment above it:
+  the contract of every function that cites a statement; an export's clauses are those of the function of its name in EXPORTED, word for word
   every file of DEMANDS from its first definition on
   every statement, the definitions with a capital that it comes to, and the tables and other definitions of its own file that it speaks of
 Every statement is cited: named by an ensures clause, or by a definition with a capital that such a clause comes to. A clause is of Type 0, so a statement
@@ -44,52 +44,52 @@ DEMANDS = [
 
 # what contracts must cite, whatever code and document say: names of definitions, or words of the definitions that they come to
 CITED = {
-    "repository::sdr_open": ["Opening-demands", "Opening-answers", "Opening-exactly", "Opening-writes", "Opening-passes", "Opening-passes-under documentLimits"],
+    "repository::sdr_open": ["OpeningDemands", "OpeningAnswers", "EachOpeningExactly", "OpeningWrites", "OpeningPasses", "OpeningPassesUnder document_limits"],
     "repository::sdr_submit": [
-        "Submission-demands",
-        "Submission-answers",
-        "Verdict-exactly",
-        "Checking-order",
-        "Accepted-exactly",
-        "Line-due-exactly",
-        "Quiet-modification",
-        "Acceptance-writes",
-        "Same-tapes",
-        "Tape-published",
-        "Identifier-with-line",
-        "Identifier-counts",
-        "Quiet-call",
-        "Number-carries",
-        "Masked-terms-public",
-        "Quiet-modification-under documentLimits",
-        "Writes-under documentLimits",
-        "Same-tapes-under documentLimits",
-        "Tape-published-under documentLimits",
-        "Identifier-counts-under documentLimits",
+        "SubmissionDemands",
+        "SubmissionAnswers",
+        "VerdictExactly",
+        "CheckingOrder",
+        "AcceptedExactly",
+        "LineDueExactly",
+        "QuietModification",
+        "AcceptanceWrites",
+        "SameTapes",
+        "TapePublished",
+        "IdentifierWithLine",
+        "IdentifierCounts",
+        "QuietCall",
+        "NumberCarries",
+        "MaskedTermsPublic",
+        "QuietModificationUnder document_limits",
+        "WritesUnder document_limits",
+        "SameTapesUnder document_limits",
+        "TapePublishedUnder document_limits",
+        "IdentifierCountsUnder document_limits",
     ],
-    "repository::sdr_status": ["Question-demands", "Question-answers", "Question-exactly", "Number-carries"],
+    "repository::sdr_status": ["QuestionDemands", "QuestionAnswers", "EachQuestionExactly", "NumberCarries"],
     "repository::sdr_totals": [
-        "Totals-demands",
-        "Totals-answers",
-        "Totals-exactly",
-        "Totals-count",
-        "Totals-sum",
-        "Rows-differ",
-        "Totals-count-under documentLimits",
-        "Totals-sum-under documentLimits",
-        "Rows-differ-under documentLimits",
+        "TotalsDemands",
+        "TotalsAnswers",
+        "EachTotalsExactly",
+        "TotalsCount",
+        "TotalsSum",
+        "RowsDiffer",
+        "TotalsCountUnder document_limits",
+        "TotalsSumUnder document_limits",
+        "RowsDifferUnder document_limits",
     ],
-    "message::layout::layout_right": ["Layout-laws", "Values-whole", "Value-filled", "Value-found"],
-    "values::lei::next_remainder": ["Prefix-remainder"],
-    "iso::is_currency": ["Currency-capitals"],
-    "iso::is_location": ["Location-capitals"],
-    "dates::is_before": ["Date-order", "Time-order"],
-    "notional::mask": ["Masking-laws", "Examples-shown", "Nearest-step", "Least-shown", "Rounded-again", "Shown-within"],
-    "price::write_price": ["Price-laws", "Prices-shown", "Price-fits"],
-    "actions::matrix::is_pair": ["Named-pairs"],
-    "terms::write_terms": ["Terms-laws", "Terms-public", "Notional-fits"],
-    "ledger::line::write_line": ["Document-sizes"],
-    "dayrun::run::judge_block": ["Nothing-lost"],
+    "message::layout::layout_right": ["LayoutLaws", "ValuesWhole", "ValueFilled", "ValueFound"],
+    "values::lei::next_remainder": ["PrefixRemainder"],
+    "iso::is_currency": ["CurrencyCapitals"],
+    "iso::is_location": ["LocationCapitals"],
+    "dates::is_before": ["DateOrder", "TimeOrder"],
+    "notional::mask": ["MaskingLaws", "ExamplesShown", "NearestStep", "LeastShown", "RoundedAgain", "ShownWithin"],
+    "price::write_price": ["PriceLaws", "PricesShown", "PriceFits"],
+    "actions::matrix::is_pair": ["NamedPairs"],
+    "terms::write_terms": ["TermsLaws", "TermsPublic", "NotionalFits"],
+    "ledger::line::write_line": ["DocumentSizes"],
+    "dayrun::run::judge_block": ["NothingLost"],
 }
 
 # functions of the section 'Forms in the code', whose contracts are quoted too
@@ -111,6 +111,9 @@ FORMS = [
 ]
 
 TEST_PROGRAMS = ["vectors"]
+
+# the crate whose functions the exports for C hand on
+EXPORTED = "repository"
 
 SPECIFICATION = pathlib.Path("docs/SPECIFICATION.md")
 CLAUSE = r"\*\*(\d+\.\d+|Verdict \d+)\*\*"
@@ -201,8 +204,10 @@ def program_functions():
 
 
 DEFINITION = r"^(?:abbrev |unfoldable )?pub (?:record |data )?(?!mod |use )([^\s:]+)"
-IMPORT = r"use Rattle·(\w+)(?:·specs)?\.specs\.([\w.]+)\.\{([^}]*)\}"
-STATEMENT = r"[A-Z]\w*(-\w+)+"
+IMPORT = r"use Rattle\.(\w+)\.specs\.([\w.]+)\.\{([^}]*)\}"
+STATEMENT = r"^(?:abbrev pub ([A-Z]\w*) : (?:Limits → )?Type \d$|pub record ([A-Z]\w*(?:Laws|Demands|Sizes)) : Type \d where$)"
+# what the first form of a statement has too: types of values
+VALUES = {"Bytes", "Element", "FieldText"}
 
 
 def paragraphs(file):
@@ -233,8 +238,8 @@ def meant(file, name):
 
 def named(file, source):
     """The definitions that a text of a file names; comments, fields and labels of fields name none."""
-    bare = re.sub(r"(?:--|//).*|(?<=\s)\.\w+|^ +pub \S+ :", "", source, flags=re.M)
-    return {meant(file, word) for word in re.findall(r"[^\s(){},;⌜⌝«»]+", bare)} - {None}
+    bare = re.sub(r"(?:--|//).*|\.\w+|^ +pub \S+ :|\bensures \w+", "", source, flags=re.M)
+    return {meant(file, word) for word in re.findall(r"[^\s(){},;«»]+", bare)} - {None}
 
 
 def reached(file, source):
@@ -280,15 +285,16 @@ def promised(contract):
 def statements():
     """File and name of every statement."""
     specs = [path.relative_to(CRATES).as_posix() for path in sorted(CRATES.glob("*/specs/**/*.antt"))]
-    own = {(file, name) for file in specs for name in definitions(file) if re.fullmatch(STATEMENT, name)}
-    clauses = {meant(file, name) for _, file, contract in contracts() for name in re.findall(r"⌜ ([A-Z][\w-]*) ⌝", promised(contract))}
+    found = [(file, one or other) for file in specs for one, other in re.findall(STATEMENT, text(CRATES / file), re.M)]
+    own = {(file, name) for file, name in found if name not in VALUES}
+    clauses = {meant(file, name) for _, file, contract in contracts() for name in re.findall(r"\{ ([A-Z]\w*) \}", promised(contract))}
     return own | clauses - {None}
 
 
 def due():
     """File, name and text of what the document must quote."""
     for name, file, contract in contracts():
-        if 'extern "C"' in contract or name in FORMS or named(file, promised(contract)) & statements():
+        if 'extern "C"' not in contract and (name in FORMS or named(file, promised(contract)) & statements()):
             yield file, name, contract
     for file in DEMANDS:
         for paragraph in paragraphs(file):
@@ -356,6 +362,14 @@ def citation_faults():
                 yield "the contract of %s does not cite %s" % (function, name)
 
 
+def export_faults():
+    """An export takes and promises, word for word, what the function of its name in EXPORTED does."""
+    plain = {name: re.sub(r"^#\[.*\n", "", contract.replace('extern "C" ', ""), flags=re.M) for name, _, contract in contracts()}
+    for name, _, contract in contracts():
+        if 'extern "C"' in contract and plain[name] != plain.get("%s::%s" % (EXPORTED, name.split("::")[-1])):
+            yield "%s has not the contract of %s's function" % (name, EXPORTED)
+
+
 def outline(document, clause):
     """The titles of the numbered sections and the numbers of what opens like a clause, in order."""
     return ["".join(found) for found in re.findall(r"^(?:(## \d+ .+)$|%s)" % clause, without_quotations(document), re.M)]
@@ -384,9 +398,9 @@ def specification_faults(specification):
 def length_faults():
     """No document has a line that is too long."""
     for path in sorted(path for pattern in DOCUMENTS for path in pathlib.Path().glob(pattern)):
-        for number, line in enumerate(path.read_bytes().splitlines(), 1):
+        for number, line in enumerate(path.read_text(encoding="utf-8").splitlines(), 1):
             if len(line) > LONGEST_LINE:
-                yield "%s:%d: a line of %d bytes" % (path, number, len(line))
+                yield "%s:%d: a line of %d characters" % (path, number, len(line))
 
 
 def main(path):
@@ -399,6 +413,7 @@ def main(path):
     faults += clause_faults(whole, specification)
     faults += quotation_faults(whole)
     faults += citation_faults()
+    faults += export_faults()
     faults = ["%s: %s" % (path, fault) for fault in faults] + list(specification_faults(specification)) + list(length_faults())
     for fault in faults:
         print(fault, file=sys.stderr)
