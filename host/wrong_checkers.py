@@ -189,7 +189,7 @@ def both_ways(host):
 def main(names):
     unnoticed = 0
     if not (HOST.parent / "target/bin/dayrun").is_file():
-        sys.exit("the program dayrun is missing: make it with rt check dayrun")
+        sys.exit("the program dayrun is missing: make it with bash scripts/build")
     with tempfile.TemporaryDirectory() as folder:
         host = copied(pathlib.Path(folder))
         print("the right checker, whose tests have to pass", flush=True)

@@ -40,12 +40,12 @@ need_file() {
 
 # need_archive: ends the script where the core's library is missing
 need_archive() {
-    need_file "$archive" 'rt staticlib repository'
+    need_file "$archive" 'bash scripts/build'
 }
 
 # need_dayrun: ends the script where the program dayrun is missing
 need_dayrun() {
-    need_file "$dayrun" 'rt check dayrun'
+    need_file "$dayrun" 'bash scripts/build'
 }
 
 # build PROJECT WORDS..: builds a Rust project into its own target/

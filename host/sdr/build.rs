@@ -1,9 +1,9 @@
-//! Links the core's archive, which `rt staticlib repository` makes.
+//! Links the core's archive, which `bash scripts/build` makes.
 
 use std::path::Path;
 use std::process::exit;
 
-/// Where `rt staticlib` puts its archives, seen from this package.
+/// Where the script puts the archive, seen from this package.
 const ARCHIVES: &str = "../../target/staticlib";
 
 fn main() {
@@ -21,6 +21,6 @@ fn main() {
 
 fn missing(archive: &Path) -> ! {
     eprintln!("the core's archive is missing: {}", archive.display());
-    eprintln!("make it with `rt staticlib repository` at the top of the repository");
+    eprintln!("make it with `bash scripts/build` at the top of the repository");
     exit(1)
 }

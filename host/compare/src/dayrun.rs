@@ -12,7 +12,7 @@ use std::sync::mpsc::{channel, Receiver, Sender};
 use std::thread;
 use std::time::{Duration, Instant};
 
-/// Where `rt check dayrun` puts the program, seen from this package.
+/// Where `bash scripts/build` puts the program, seen from this package.
 const PROGRAM: &str = "../../target/bin/dayrun";
 /// After so long a program that writes nothing, or does not end, hangs.
 const LIMIT: Duration = Duration::from_secs(20);
@@ -24,7 +24,7 @@ pub fn program() -> PathBuf {
     let path = std::env::var_os("DAYRUN").map_or_else(own, PathBuf::from);
     assert!(
         path.is_file(),
-        "the program dayrun is missing ({}): make it with rt check dayrun",
+        "the program dayrun is missing ({}): make it with bash scripts/build",
         path.display()
     );
     path
