@@ -5,8 +5,9 @@ A file of definitions or proofs has lines as
 and a file of code has, beside
   use path::name;                  which its code must use,
   ghost use path.{name};           which a clause of a contract must use.
-An operator is used where each of its parts stands. Words in comments and texts, fields (.name) and labels (name = .. in braces) are no uses. What is passed
-on (pub use) is not judged, nor is a whole module (use path::*;). A variable of the same name hides that an import is unused.
+An operator is used where each of its parts stands, a trait of TRAITS where one of its methods is called. Words in comments and texts, fields (.name) and
+labels (name = .. in braces) are no uses. What is passed on (pub use) is not judged, nor is a whole module (use path::*;). A variable of the same name hides
+that an import is unused.
 
 Prints file, line and name of each import that nothing uses, and fails if there is any. With --fix it takes them out of the files.
 """
@@ -18,6 +19,9 @@ import sys
 CRATES = pathlib.Path("crates")
 
 USE = re.compile(r"^ *(pub |ghost )?use ([^\s{;]+?)(?:(?:\.|::)\{([^}]*)\})?(?: as ([^\s;]+))?;?\n", re.M)
+# traits of the library that code imports for their methods
+TRAITS = {"Read": r"\.read\w*\(", "Write": r"\.(?:write|flush)\w*\("}
+
 CLAUSE = re.compile(r"\b(?:requires|ensures)(?: \w+)? \{")
 TEXT = r'"(?:[^"\\\n]|\\.)*"'
 IGNORED = {".antt": re.compile(TEXT + r"|(?<!\S)--[^\n]*"), ".rt": re.compile(TEXT + r"|b'(?:[^'\\]|\\.)'|//[^\n]*")}
@@ -33,7 +37,7 @@ def in_proof(proof):
 
 def in_code(code):
     words = set(re.findall(r"\w+", code))
-    return lambda name: name in words
+    return lambda name: name in words or name in TRAITS and re.search(TRAITS[name], code)
 
 
 def clauses(code):
