@@ -5,7 +5,8 @@
 rt_log=target/rt.log
 
 # what its progress leaves out
-passed_over='(: proved| proved|: ok)$|^(logic|library|statements|crate|axioms|linked)[ =]|^(\S+:[0-9]+:[0-9]+: )?note: |^== summary$|^rt: (chose |.*: begins with )'
+passed_over='(: proved| proved|: ok)$|^(logic|library|statements|crate|axioms|linked|only)[ =]'
+passed_over+='|^(\S+:[0-9]+:[0-9]+: )?note: |^== summary$|^rt: (chose |.*: begins with )'
 
 # prove WORDS..: runs rt at the top of the repository and tells its progress; where rt fails, ends the script with rt's status
 prove() {
