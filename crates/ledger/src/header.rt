@@ -117,6 +117,7 @@ fn read_numbers(l: &[u8]) -> Header
 }
 
 // Whether a ledger with these numbers is long enough and has a right header.
+#[tactic(auto, unfolding(crate::specs::Header::header_right, crate::specs::Header::first_row, crate::specs::Header::size_of_rows, crate::specs::Header::header_of))]
 fn is_right(l: &[u8], largest: u32, h: Header) -> bool
     requires { h ≡ header_of l.now }
     ensures { result ≡ header_right largest l.now }

@@ -85,6 +85,7 @@ fn lower_total(l: &mut [u8], before: u8)
 }
 
 // A change of status lowers the total of the old status and raises that of the new one; where the status stays, no total moves.
+#[tactic(auto, unfolding(crate::specs::Totals::totals_after, crate::specs::Totals::with_total))]
 pub fn move_totals(l: &mut [u8], before: u8, after: u8)
     requires { (header_size ≤ length l.old) × (before ≤ ported) × (live ≤ after) × (after ≤ ported)
         × ((before ≡ unknown → ⊥) → 0 < total_in before l.old) }

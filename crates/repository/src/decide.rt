@@ -108,6 +108,7 @@ pub fn decide(l: &[u8], tape: &[u8], m: &[u8], longest: usize, largest: u32) -> 
 }
 
 // 4
+#[tactic(auto, unfolding(crate::specs::Decision::decision_from, submission::specs::Submission::submission_rules, rules::specs::Rules::rules_for, rules::specs::Findings::from_rule, rules::specs::Findings::before_rule, rules::specs::Findings::first_broken))]
 fn decide_tape(l: &[u8], tape: &[u8], m: &[u8], longest: usize, header: Header) -> Decision
     requires { HeaderRead header l.now }
     ensures { (largest : ℕ) → result ≡ decision_from tape_short (limits_of longest largest) (lent_of l.now tape.now) m.now }

@@ -102,6 +102,7 @@ fn judge_forms(m: &[u8], action: Action) -> Judged
 }
 
 // 10
+#[tactic(auto, unfolding(crate::specs::Rules::judged_from, crate::specs::Rules::rules_of, crate::specs::Findings::from_rule, crate::specs::Findings::first_broken))]
 fn judge_pair(m: &[u8], action: Action) -> Judged
     requires { Laid m.now }
     ensures { result ≡ judged_from not_a_pair (Value action) m.now }

@@ -3,6 +3,7 @@ use mathlib.Core.Bool.{true}
 use mathlib.Core.Path.{◌≡◌, refl}
 use mathlib.Core.List.{[], ◌∷◌}
 use borrow.Author.Rules.{rules}
+use native.Mathlib.Omega.{arith}
 use Rattle.octets.specs.Search.{all_from}
 use Rattle.octets.specs.Text.{text}
 use Rattle.octets.proofs.NumberLaws.{EachByte}
@@ -32,14 +33,14 @@ returns-2 c =
     let start = c in
     let v = start.args.v.now in
     let bytes : EachByte v = λ k. (start.shared_slice_known-1.given k).fits in
-    (listed location_size iso3166 test v (_ ∷ (_ ∷ [])) refl (c.byte_at-a.ensures, (c.byte_at-b.ensures, tt)) start.if-v-ne-LOCATION_SIZE.false bytes c.in-4277248.is, law)
+    (listed location_size iso3166 test v (_ ∷ (_ ∷ [])) refl (c.byte_at-a.ensures, (c.byte_at-b.ensures, tt)) (omega arith) bytes c.in-4277248.is, law)
 
 returns-3 : tie.Need-returns-in_default
 unfolding is_location iso3166 numbers number read_on text
 returns-3 c =
     let start = c in
     let v = start.args.v.now in
-    (not_listed location_size iso3166 test v (_ ∷ (_ ∷ [])) refl (c.byte_at-a.ensures, (c.byte_at-b.ensures, tt)) start.if-v-ne-LOCATION_SIZE.false c.in_default.in_default-own.rest.1, law)
+    (not_listed location_size iso3166 test v (_ ∷ (_ ∷ [])) refl (c.byte_at-a.ensures, (c.byte_at-b.ensures, tt)) (omega arith) c.in_default.in_default-own.rest.1, law)
 
 pub is_location_spec : {M : Type 1} → statement M
 is_location_spec =

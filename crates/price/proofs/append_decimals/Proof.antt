@@ -24,7 +24,7 @@ returns-2 : tie.Need-returns
 unfolding shown_decimals text
 returns-2 c =
     let d = c.args.d.now in
-    let some : 0 < length (trim_zeros d) = omega (arith, ap length c.trim_zeros-rest.ensures, c.if-rest-eq0.false) in
+    let some : 0 < length (trim_zeros d) = omega (arith, ap length c.trim_zeros-rest.ensures) in
     rw (empty_some _ some, ← c.trim_zeros-rest.ensures) (λ n xs h. rw append_assoc at (holds_more c.trim_zeros-rest.result.now (holds_more (text ".") h c.append-next.ensures) c.append.ensures))
 
 pub append_decimals_spec : {M : Type 1} → statement M

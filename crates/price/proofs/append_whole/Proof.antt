@@ -23,7 +23,7 @@ returns-2 : tie.Need-returns
 unfolding shown_whole
 returns-2 c =
     let w = c.args.w.now in
-    let some : 0 < length (drop_zeros w) = omega (arith, ap length c.drop_zeros-kept.ensures, c.if-kept-eq0.false) in
+    let some : 0 < length (drop_zeros w) = omega (arith, ap length c.drop_zeros-kept.ensures) in
     rw (empty_some _ some, ← c.drop_zeros-kept.ensures) (λ n xs h. holds_more c.drop_zeros-kept.result.now h c.append-2.ensures)
 
 pub append_whole_spec : {M : Type 1} → statement M
