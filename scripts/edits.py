@@ -67,9 +67,11 @@ def refused(edit):
     if goal:
         return "%s of %s" % (goal[2], goal[1])
     if alone:
-        # (an edit replaces one line by one line, so the function is the last that begins up to there)
-        lines = (CRATES / edit.parts[1] / alone[1]).read_text(encoding="utf-8").splitlines()
-        return "%s of %s" % (alone[3], re.findall(FUNCTION, "\n".join(lines[: int(alone[2])]), re.M)[-1])
+        # (an edit replaces one line by one line, so the function is the last that begins up to there; it begins with its attributes)
+        lines, last = (CRATES / edit.parts[1] / alone[1]).read_text(encoding="utf-8").splitlines(), int(alone[2])
+        while lines[last - 1].startswith("#["):
+            last += 1
+        return "%s of %s" % (alone[3], re.findall(FUNCTION, "\n".join(lines[:last]), re.M)[-1])
     return printed
 
 
