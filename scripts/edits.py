@@ -26,12 +26,12 @@ WIDTH = 160
 
 Comment = collections.namedtuple("Comment", "name words facts")
 COMMENT = r"# (\S+): (.+)\. Refused at (\S+ of \w+(?:, then \S+ of \w+)?)\."
-NAME = r"%s(::[a-z_0-9]+)+|%s/specs/[\w/]+\.antt#\S+"
+NAME = r"%s(::[a-z_0-9]+)*(::[A-Z]\w*)?::[a-z_0-9]+|%s/specs/[\w/]+\.antt#\S+"
 # rt's words: the first that was refused of each edit; a goal or a law of a file of proofs/, itself or by what depends on it; a goal that the toolchain's own
 # search leaves open, at the line of the function
 REFUSED = r"^rt: must-fail (\w+/[\w.-]+)\.edit: refused, as it must be: (.*)$"
 GOAL = r"\./proofs/(?:\S*?/)??(\w+)(?:/(?:Proof|Answers|Invariants))?\.antt:\d+:\d+: error: (?:\d+ declarations? that depends? on )?`([^`]+)`"
-ALONE = r"note: (src/\w+\.rt):(\d+):\d+: it is not proved that .* \(`([^`]+)`\)"
+ALONE = r"note: (src/\w+\.rt):(\d+):\d+: (?:it is not proved that .*|`search` found no proof) \(`([^`]+)`\)"
 
 
 def crates():
@@ -69,7 +69,7 @@ def refused(edit):
     if alone:
         # (an edit replaces one line by one line, so the function is the last that begins up to there; it begins with its attributes)
         lines, last = (CRATES / edit.parts[1] / alone[1]).read_text(encoding="utf-8").splitlines(), int(alone[2])
-        while lines[last - 1].startswith("#["):
+        while lines[last - 1].lstrip().startswith("#["):
             last += 1
         return "%s of %s" % (alone[3], re.findall(FUNCTION, "\n".join(lines[:last]), re.M)[-1])
     return printed

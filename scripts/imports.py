@@ -4,7 +4,8 @@ A file of definitions or proofs has lines as
   use path.{name, name as other}   and   use path as other
 and a file of code has, beside
   use path::name;                  which its code must use,
-  ghost use path.{name};           which a clause of a contract must use.
+  ghost use path.{name};           which must be used by a clause of a contract, a ghost field (ghost name: { .. }), a ghost member (ghost name = { .. })
+                                   or an attribute, as a bare name: a name with its path there (crate::specs::File::name) needs no import.
 An operator is used where each of its parts stands, a trait of TRAITS where one of its methods is called. Words in comments and texts, fields (.name) and
 labels (name = .. in braces) are no uses. What is passed on (pub use) is not judged, nor is a whole module (use path::*;). A variable of the same name hides
 that an import is unused.
@@ -22,7 +23,8 @@ USE = re.compile(r"^ *(pub |ghost )?use ([^\s{;]+?)(?:(?:\.|::)\{([^}]*)\})?(?: 
 # traits of the library that code imports for their methods
 TRAITS = {"Read": r"\.read\w*\(", "Write": r"\.(?:write|flush)\w*\("}
 
-CLAUSE = re.compile(r"\b(?:requires|ensures)(?: \w+)? \{")
+# what only the proof reads in a file of code, up to where its braces or parentheses open
+GHOST = re.compile(r"\b(?:requires|ensures)(?: \w+)? \{|\bghost \w+(?::| =) \{|#!?\[tactic\(")
 TEXT = r'"(?:[^"\\\n]|\\.)*"'
 IGNORED = {".antt": re.compile(TEXT + r"|(?<!\S)--[^\n]*"), ".rt": re.compile(TEXT + r"|b'(?:[^'\\]|\\.)'|//[^\n]*")}
 LABEL = re.compile(r"([{;]\s*)[^\s(){};,.]+(?=\s+=\s)")
@@ -40,13 +42,14 @@ def in_code(code):
     return lambda name: name in words or name in TRAITS and re.search(TRAITS[name], code)
 
 
-def clauses(code):
-    """What stands in the braces of contracts, and the rest."""
+def ghost_parts(code):
+    """What stands in contracts, ghost fields, ghost members and attributes, and the rest."""
     inside, outside, at = [], [], 0
-    for opening in CLAUSE.finditer(code):
+    for opening in GHOST.finditer(code):
         end, depth = opening.end(), 1
+        steps = {"{": 1, "}": -1} if opening.group().endswith("{") else {"(": 1, ")": -1}
         while depth:
-            depth += {"{": 1, "}": -1}.get(code[end], 0)
+            depth += steps.get(code[end], 0)
             end += 1
         inside.append(code[opening.end() : end - 1])
         outside.append(code[at : opening.start()])
@@ -65,7 +68,7 @@ def unused(path, source):
     """Each line that imports what nothing uses, with its items that are unused."""
     body = IGNORED[path.suffix].sub(" ", USE.sub("\n", source))
     if path.suffix == ".rt":
-        inside, outside = clauses(body)
+        inside, outside = ghost_parts(body)
         is_used = {"ghost ": in_proof(inside), None: in_code(outside)}
     else:
         is_used = {None: in_proof(body)}
@@ -84,7 +87,7 @@ def without(use, idle):
 
 def main(fix):
     found = 0
-    for path in sorted(p for p in CRATES.rglob("*") if p.suffix in IGNORED):
+    for path in sorted(p for p in CRATES.rglob("*") if p.suffix in IGNORED and "out" not in p.relative_to(CRATES).parts):
         source = path.read_text(encoding="utf-8")
         kept, at = [], 0
         for use, idle in unused(path, source):

@@ -50,7 +50,7 @@ def places(codes, definition, function):
     """Each place of the list: its file, what stands before it, it and what stands behind it, and how it should read."""
     return [
         (DEFINITION, rf"(\n{definition} =\n)(.*?    \[\]\n)()", defined(codes)),
-        (CODE, rf"(\npub fn {function}\(.*?    match n {{\n)(.*?)(        _ => false,\n)", matched(codes)),
+        (CODE, rf"(\npub fn {function}\(.*?    match u32::from_be_bytes\([^\n]*\) {{\n)(.*?)(        _ => false,\n)", matched(codes)),
     ]
 
 

@@ -5,7 +5,8 @@ section of the same title and in the same order. The quotations of SPECIFICATION
 No document has a longer line than LONGEST_LINE characters.
 
 A name stands in back quotes and is one of
-  crate::module::function          a function of crates/crate/src, or a method there
+  crate::module::function          a function of crates/crate/src, by itself or of a trait (as from)
+  crate::module::Type::method      a method of a type there
   crate::module::Type              a struct or an enum of crates/crate/src
   crate/specs/File.antt#name       a definition; crate/proofs/File.antt#name: a law
   crate/must-fail/label.edit       a must-fail edit of the gate
@@ -15,11 +16,13 @@ Anything else in back quotes is an error, and so is a public function of a libra
 edits.py holds the rows about must-fail edits to the edits.
 
 A quotation is a block that opens with three back quotes and the name of a file, as in crate/specs/File.antt. Its lines stand in that file, one after the
-other. A statement is a definition of specs that is a claim of its own or one under some limits, a record of Laws, Demands or Sizes, or one that is a whole
-clause of a contract. These are quoted whole, each with the comment above it:
+other. Of a file of code the lines that say how a function is proved, or why its form stays, are passed over (PASSED_OVER). A statement is a definition of
+specs that is a claim of its own or one under some limits, a record of Laws, Demands or Sizes, or one that is a whole clause of a contract. These are quoted
+whole, each with the comment above it:
   the contract of every function that cites a statement; an export's clauses are those of the function of its name in EXPORTED, word for word
   every file of DEMANDS from its first definition on
   every statement, the definitions with a capital that it comes to, and the tables and other definitions of its own file that it speaks of
+  every struct with a ghost field, which is asked of each function that makes such a value and holds for each that takes one
 Every statement is cited: named by an ensures clause, or by a definition with a capital that such a clause comes to. A clause is of Type 0, so a statement
 of a higher type has a law in proofs/ instead. CITED says which functions must cite what, and FORMS names further functions whose contracts are quoted.
 """
@@ -95,17 +98,23 @@ CITED = {
 # functions of the section 'Forms in the code', whose contracts are quoted too
 FORMS = [
     "message::start",
-    "message::seek",
-    "message::value",
+    "message::Reader::seek",
+    "message::Reader::value",
     "message::element",
     "message::entries::value_at",
-    "message::entries::value_here",
+    "message::laid::LaidMessage::value_here",
+    "message::laid::Cursor::value_of",
     "octets::part_of",
-    "elements::conditions::kept",
+    "elements::shown::MessageFacts::kept",
     "actions::table::read_action",
     "notional::step_of",
     "rules::checks::lowest_fault",
+    "rules::checks::lowest_missing",
+    "rules::checks::lowest_not_taken",
+    "rules::checks::lowest_broken",
+    "rules::checks::lowest_due",
     "rules::judge",
+    "rules::judge_laid",
     "ledger::rows::store_row",
     "dayrun::output::waiting",
 ]
@@ -123,8 +132,17 @@ DOCUMENTS = ["*.md", "docs/**/*.md", "data/*.md", "host/**/*.md", "days/*.md", "
 LONGEST_LINE = 160
 
 
+# lines of code that promise nothing: the tactic of a function's proof, and why a form stays
+PASSED_OVER = r"^ *(?:#\[tactic\(.*\)\]|// Stays: .*)\n"
+
+
 def text(path):
     return path.read_text(encoding="utf-8") if path.is_file() else None
+
+
+def quotable(path):
+    """The text of a file without the lines that quotations pass over."""
+    return re.sub(PASSED_OVER, "", text(path) or "", flags=re.M) if path.suffix == ".rt" else text(path) or ""
 
 
 FUNCTION = r"^ *(?:pub )?(?:extern \"C\" )?fn (\w+)"
@@ -132,12 +150,33 @@ PUBLIC_FUNCTION = r"^ *pub (?:extern \"C\" )?fn (\w+)"
 TYPE = r"^(?:pub )?(?:struct|enum) (\w+)"
 
 
-def item_exists(name, pattern):
-    """crate::f, or crate::module::f in src/module.rt; f may be re-exported."""
+def functions(source):
+    """The line of each function, its name and whether it is pub; that of a method has its type in front. An impl block ends at the first column."""
+    owner = []
+    for at, line in enumerate(source.splitlines()):
+        block = re.match(r"impl\b(?:<[^>]*>)? *(\w+)(?:<[^>]*>)? *\{", line)
+        owner = [block[1]] if block else [] if re.match(r"\S", line) else owner
+        function = re.match(FUNCTION, line)
+        if function:
+            yield at, "::".join([*owner, function[1]]), bool(re.match(PUBLIC_FUNCTION, line))
+
+
+def sources(modules, crate):
+    """The file of a module, or every file of the crate: what they have may be re-exported."""
+    return sorted((CRATES / crate / "src").glob("/".join(modules) + ".rt" if modules else "*.rt"))
+
+
+def function_exists(name):
+    """crate::f or crate::module::f, with the type in front of a method's name."""
     crate, *modules, item = name.split("::")
-    source = "/".join(modules) + ".rt" if modules else "*.rt"
-    files = sorted((CRATES / crate / "src").glob(source))
-    return any(item in re.findall(pattern, text(f), re.M) for f in files)
+    if modules and modules[-1][0].isupper():
+        item = modules.pop() + "::" + item
+    return any(item == found for f in sources(modules, crate) for _, found, _ in functions(text(f)))
+
+
+def type_exists(name):
+    crate, *modules, item = name.split("::")
+    return any(item in re.findall(TYPE, text(f), re.M) for f in sources(modules, crate))
 
 
 def definition_exists(name):
@@ -160,10 +199,10 @@ def exists(name):
         return vector_exists(name)
     if re.fullmatch(r"host/[\w/]+\.rs#\w+", name):
         return host_test_exists(name)
-    if re.fullmatch(r"[a-z_]+(::[a-z_0-9]+)+", name):
-        return item_exists(name, FUNCTION)
+    if re.fullmatch(r"[a-z_]+(::[a-z_0-9]+)*(::[A-Z]\w*)?::[a-z_0-9]+", name):
+        return function_exists(name)
     if re.fullmatch(r"[a-z_]+(::[a-z_0-9]+)*::[A-Z]\w*", name):
-        return item_exists(name, TYPE)
+        return type_exists(name)
     if re.fullmatch(r"[a-z_]+/(specs|proofs)/[\w/]+\.antt#\S+", name):
         return definition_exists(name)
     if re.fullmatch(r"[a-z_]+/must-fail/\w+\.edit", name):
@@ -171,23 +210,18 @@ def exists(name):
     return False
 
 
-def methods(source, type_name):
-    """The public methods of a type: those in its impl blocks, which end at the first column."""
-    for block in re.findall(r"^impl(?:<[^>]*>)? %s\b.*?^}" % type_name, source, re.M | re.S):
-        yield from re.findall(PUBLIC_FUNCTION, block, re.M)
-
-
 def public_functions():
     """What a library hands out: functions and methods that are pub in lib.rt, or re-exported there, by themselves or with their type."""
     for lib in sorted(CRATES.glob("*/src/lib.rt")):
         crate, source = lib.parts[1], text(lib)
-        for name in re.findall(PUBLIC_FUNCTION, source, re.M):
-            yield "%s::%s" % (crate, name)
-        for module, name in re.findall(r"^pub use (\w+)::(\w+);", source, re.M):
-            inner = text(lib.parent / (module + ".rt")) or ""
-            handed_out = [name] if re.search(r"^pub fn %s\b" % name, inner, re.M) else methods(inner, name)
-            for function in handed_out:
-                yield "%s::%s::%s" % (crate, module, function)
+        for _, name, is_pub in functions(source):
+            if is_pub:
+                yield "%s::%s" % (crate, name)
+        for module, names in re.findall(r"^pub use (\w+)::(\w+|\{[^}]*\});", source, re.M):
+            handed_out = re.findall(r"\w+", names)
+            for _, name, is_pub in functions(text(lib.parent / (module + ".rt")) or ""):
+                if is_pub and name.split("::")[0] in handed_out:
+                    yield "%s::%s::%s" % (crate, module, name)
 
 
 def program_functions():
@@ -198,7 +232,7 @@ def program_functions():
             continue
         for file in sorted(main_file.parent.glob("*.rt")):
             module = [] if file == main_file else [file.stem]
-            for name in re.findall(FUNCTION, text(file), re.M):
+            for _, name, _ in functions(text(file)):
                 if name != "main":
                     yield "::".join([crate, *module, name])
 
@@ -263,17 +297,23 @@ def contracts():
     """Name, file and text of every function's contract: comment, signature and clauses, up to the brace of its body."""
     found = []
     for path in sorted(CRATES.glob("*/src/*.rt")):
-        file, lines = path.relative_to(CRATES).as_posix(), text(path).splitlines()
+        file, lines = path.relative_to(CRATES).as_posix(), quotable(path).splitlines()
         module = [] if path.stem in ("lib", "main") else [path.stem]
-        for at, function in [(i, re.match(FUNCTION, line)) for i, line in enumerate(lines)]:
-            if function:
-                first = at
-                while re.match(r" *(?://|#\[)", lines[first - 1]):
-                    first -= 1
-                last = next(i for i in range(at, len(lines)) if lines[i].endswith("{"))
-                name = "::".join([path.parts[1], *module, function[1]])
-                found.append((name, file, "\n".join(lines[first:last])))
+        for at, function, _ in functions("\n".join(lines)):
+            first = at
+            while re.match(r" *(?://|#\[)", lines[first - 1]):
+                first -= 1
+            last = next(i for i in range(at, len(lines)) if lines[i].endswith("{"))
+            found.append(("::".join([path.parts[1], *module, function]), file, "\n".join(lines[first:last])))
     return found
+
+
+def ghost_structs():
+    """File, name and text of every struct with a ghost field, with its comment and its attributes."""
+    for path in sorted(CRATES.glob("*/src/*.rt")):
+        for found in re.finditer(r"(?:^(?://|#\[).*\n)*^(?:pub )?struct (\w+).*\{\n(?:.*\n)*?\}", quotable(path), re.M):
+            if re.search(r"^ *(?:pub )?ghost ", found[0], re.M):
+                yield path.relative_to(CRATES).as_posix(), found[1], found[0]
 
 
 def promised(contract):
@@ -302,6 +342,7 @@ def due():
     for file, name in sorted(statements()):
         for f, n in sorted(spoken_of(file, name)):
             yield f, n, definitions(f)[n]
+    yield from ghost_structs()
 
 
 def holds(source, part):
@@ -320,7 +361,7 @@ def without_ends(source):
 def misquotations(document, root):
     """The quotations that are not the text of their files under root, each with the first line that is not. Spaces at the end of a line do not count."""
     for file, block in quotations(document):
-        lines, source = without_ends(block).splitlines(), without_ends(text(root / file) or "")
+        lines, source = without_ends(block).splitlines(), without_ends(quotable(root / file))
         for i in range(len(lines)):
             if not holds(source, "\n".join(lines[: i + 1])):
                 yield "not the text of %s: '%s'" % (file, lines[i])
@@ -348,12 +389,15 @@ def is_stated(file, name):
 
 
 def citation_faults():
-    """Every statement is cited, and functions cite what they must."""
+    """Every statement is cited, functions cite what they must, and those of FORMS are there."""
     cited = {name: reached(file, promised(contract)) for name, file, contract in contracts()}
     everywhere = set().union(*cited.values())
     for file, name in sorted(statements() - everywhere):
         if not is_stated(file, name):
             yield "no contract cites %s#%s" % (file, name)
+    for function in FORMS:
+        if function not in cited:
+            yield "no such function: %s of FORMS" % function
     for function, names in CITED.items():
         found = cited.get(function, set())
         words = " ".join(" ".join(definitions(file)[name].split()) for file, name in found)

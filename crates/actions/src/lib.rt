@@ -9,11 +9,11 @@ ghost use Rattle.std.specs.Prelude.{◌≡◌};
 ghost use Rattle.actions.specs.Actions.{is_full, writes_line, needs_change, is_new, repeats_time};
 
 pub use matrix::is_pair;
-pub use statuses::{CLOSED, ERRORED, LIVE, NO_STEP, PORTED, UNKNOWN, status_after};
+pub use statuses::{NoStatus, Status, UNKNOWN, status_after};
 pub use table::{ACTION_TYPE, read_action};
 use table::{Kind, columns_of};
 
-#[derive(Clone, Copy)]
+#[derive(Clone, Copy, Debug, PartialEq, Eq)]
 pub enum Action {
     Newt,
     Modi,
@@ -24,22 +24,13 @@ pub enum Action {
     Prto,
 }
 
-// What a check answers: the code of the element at fault, or the message's action, which the next check uses.
-#[derive(Clone, Copy)]
-pub enum Checked {
-    Fault(u8),
-    Value(Action),
-}
+// Stays: five readers of a column each, since the definitions and other crates' contracts and calls have each by this name.
 
 // Whether a message of the action is full.
 pub fn is_full(a: Action) -> bool
     ensures { result ≡ is_full a }
 {
-    let kind = columns_of(a).kind;
-    match kind {
-        Kind::Full => true,
-        Kind::Short => false,
-    }
+    columns_of(a).kind == Kind::Full
 }
 
 // Whether an accepted message of the action writes a tape line.

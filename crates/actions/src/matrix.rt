@@ -5,7 +5,6 @@ ghost use Rattle.actions.specs.Matrix.{no_event, tick, pair_allowed, NamedPairs}
 use crate::Action;
 use crate::table::{EVENTS, MATRIX, NO_EVENT, columns_of};
 use octets::place_in;
-use values::EVENT_SIZE;
 
 // The matrix at an action and a column.
 fn has_tick(a: Action, column: usize) -> bool
@@ -17,16 +16,16 @@ fn has_tick(a: Action, column: usize) -> bool
 }
 
 // Whether the action and the event, or its absence, are a pair of the matrix.
+#[tactic(auto, using(crate::proofs::MatrixLaws::named_pairs))]
 pub fn is_pair(a: Action, event: &[u8]) -> bool
     ensures value { result ≡ pair_allowed a event.now }
     ensures named_pairs { NamedPairs }
 {
-    if event.len() == 0 {
+    if event.is_empty() {
         return has_tick(a, NO_EVENT);
     }
-    let column = place_in(event, &EVENTS, EVENT_SIZE, NO_EVENT);
-    if column < NO_EVENT {
-        return has_tick(a, column);
-    }
-    false
+    let Some(column) = place_in(event, &EVENTS) else {
+        return false;
+    };
+    has_tick(a, column)
 }

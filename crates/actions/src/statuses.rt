@@ -1,32 +1,58 @@
 // The steps of a swap's status.
 ghost use Rattle.std.specs.Prelude.{◌≡◌};
-ghost use Rattle.actions.specs.Actions.{next_status};
+ghost use Rattle.actions.specs.Actions.{Decodes, number_of, step_number, next_status};
 
 use crate::Action;
 use crate::table::columns_of;
 
-// Statuses have the numbers from live to ported; an unknown swap has none.
+// The statuses of a swap that has a row.
+#[derive(Clone, Copy, Debug, PartialEq, Eq)]
+pub enum Status {
+    Live = 1,
+    Closed = 2,
+    Errored = 3,
+    Ported = 4,
+}
+
+// A number that no status has.
+#[derive(Clone, Copy, Debug, PartialEq, Eq)]
+pub struct NoStatus(pub u8);
+
+impl TryFrom<u8> for Status {
+    type Error = NoStatus;
+
+    ghost try_from_gives = { Decodes };
+
+    fn try_from(number: u8) -> Result<Self, NoStatus> {
+        match number {
+            1 => Ok(Status::Live),
+            2 => Ok(Status::Closed),
+            3 => Ok(Status::Errored),
+            4 => Ok(Status::Ported),
+            _ => Err(NoStatus(number)),
+        }
+    }
+}
+
+// An unknown swap has no status; this number stands for none.
 pub const UNKNOWN: u8 = 0;
 
-pub const LIVE: u8 = 1;
+// The number of a status.
+impl From<Status> for u8 {
+    ghost from_gives = { λ status number. number ≡ number_of status };
 
-pub const CLOSED: u8 = 2;
-
-pub const ERRORED: u8 = 3;
-
-pub const PORTED: u8 = 4;
-
-// Stands for 'no such step exists': no step leads to unknown.
-pub const NO_STEP: u8 = 0;
+    fn from(status: Status) -> u8 {
+        status as u8
+    }
+}
 
 // The swap's status after the action, where such a step exists.
-pub fn status_after(a: Action, status: u8) -> u8
-    ensures { result ≡ next_status a status }
+pub fn status_after(a: Action, status: u8) -> Option<Status>
+    ensures { step_number result ≡ next_status a status }
 {
-    if PORTED < status {
-        return NO_STEP;
-    }
-    let steps = columns_of(a).steps;
-    let column = status as usize;
-    steps[column]
+    columns_of(a)
+        .steps
+        .get(usize::from(status))
+        .copied()
+        .flatten()
 }

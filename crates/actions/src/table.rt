@@ -2,13 +2,14 @@
 ghost use Rattle.std.specs.Prelude.{◌≡◌};
 ghost use Rattle.actions.specs.Actions.{action_of, IsRow};
 
+use crate::Action;
 use crate::Action::*;
-use crate::{Action, Checked};
+use crate::statuses::Status;
 use Kind::*;
-use values::{EVENT_SIZE, is_code};
+use values::EVENT_SIZE;
 
 // The kinds of messages: full ones and short ones take and need other elements.
-#[derive(Clone, Copy)]
+#[derive(Clone, Copy, Debug, PartialEq, Eq)]
 pub enum Kind {
     Full,
     Short,
@@ -16,7 +17,7 @@ pub enum Kind {
 
 // What the table says of an action beside its text: its row in the matrix; the kind of its messages; whether it is a new swap's, writes
 // a line, and only where it changes the stored terms, repeats the stored execution time; the status after it from unknown, live, closed,
-// errored, ported, 0 where no step exists.
+// errored, ported, where such a step exists.
 #[derive(Clone, Copy)]
 pub struct Columns {
     pub place: usize,
@@ -25,7 +26,7 @@ pub struct Columns {
     pub line: bool,
     pub change: bool,
     pub repeats: bool,
-    pub steps: [u8; STATUSES],
+    pub steps: [Option<Status>; STATUSES],
 }
 
 // The code of the element that holds the action.
@@ -36,6 +37,15 @@ const Y: bool = true;
 
 const N: bool = false;
 
+// Where a step leads to.
+const LIVE: Option<Status> = Some(Status::Live);
+
+const CLOSED: Option<Status> = Some(Status::Closed);
+
+const ERRORED: Option<Status> = Some(Status::Errored);
+
+const PORTED: Option<Status> = Some(Status::Ported);
+
 // How many actions and statuses there are, unknown included.
 const ACTIONS: usize = 7;
 
@@ -45,8 +55,10 @@ const STATUSES: usize = 5;
 pub const NO_EVENT: usize = 12;
 
 // The columns of the matrix; behind them stands that of no event.
-pub const EVENTS: [u8; NO_EVENT * EVENT_SIZE] =
-    *b"TRADNOVACOMPETRMCLRGEXERALOCCLALCREVPTNGCORPUPDT";
+pub const EVENTS: [[u8; EVENT_SIZE]; NO_EVENT] = [
+    *b"TRAD", *b"NOVA", *b"COMP", *b"ETRM", *b"CLRG", *b"EXER", *b"ALOC", *b"CLAL", *b"CREV",
+    *b"PTNG", *b"CORP", *b"UPDT",
+];
 
 // The matrix of Appendix F.
 pub const MATRIX: [[bool; NO_EVENT + 1]; ACTIONS] = [
@@ -60,6 +72,7 @@ pub const MATRIX: [[bool; NO_EVENT + 1]; ACTIONS] = [
 ];
 
 // A row, in the order of the columns.
+// Stays: as a struct literal with named fields a row takes nine lines, and the table is no longer seen at one look.
 fn row(
     place: usize,
     kind: Kind,
@@ -67,7 +80,7 @@ fn row(
     line: bool,
     change: bool,
     repeats: bool,
-    steps: [u8; STATUSES],
+    steps: [Option<Status>; STATUSES],
 ) -> Columns
     ensures { result ≡ record { place = place; kind = kind; new = new; line = line; change = change; repeats = repeats; steps = steps } }
 {
@@ -87,40 +100,29 @@ pub fn columns_of(a: Action) -> Columns
     ensures { IsRow a result }
 {
     match a {
-        Newt => row(0, Full, Y, Y, N, N, [1, 0, 0, 0, 0]),
-        Modi => row(1, Full, N, Y, Y, Y, [0, 1, 0, 0, 0]),
-        Corr => row(2, Full, N, Y, N, N, [0, 1, 2, 0, 0]),
-        Term => row(3, Short, N, Y, N, N, [0, 2, 0, 0, 0]),
-        Eror => row(4, Short, N, Y, N, N, [0, 3, 3, 0, 0]),
-        Revi => row(5, Full, N, Y, N, Y, [0, 0, 1, 1, 0]),
-        Prto => row(6, Short, N, N, N, N, [0, 4, 0, 0, 0]),
+        Newt => row(0, Full, Y, Y, N, N, [LIVE, None, None, None, None]),
+        Modi => row(1, Full, N, Y, Y, Y, [None, LIVE, None, None, None]),
+        Corr => row(2, Full, N, Y, N, N, [None, LIVE, CLOSED, None, None]),
+        Term => row(3, Short, N, Y, N, N, [None, CLOSED, None, None, None]),
+        Eror => row(4, Short, N, Y, N, N, [None, ERRORED, ERRORED, None, None]),
+        Revi => row(5, Full, N, Y, N, Y, [None, None, LIVE, LIVE, None]),
+        Prto => row(6, Short, N, N, N, N, [None, PORTED, None, None, None]),
     }
 }
 
 // What the value of element 2 says.
-pub fn read_action(v: &[u8]) -> Checked
+#[tactic(auto, unfolding(crate::specs::Actions::action_of, octets::specs::Same::look_up, octets::specs::Same::same_bytes, octets::specs::Text::text))]
+pub fn read_action(v: &[u8]) -> Result<Action, u8>
     ensures { result ≡ action_of v.now }
 {
-    if is_code(v, b"NEWT") {
-        return Checked::Value(Newt);
+    match v {
+        b"NEWT" => Ok(Newt),
+        b"MODI" => Ok(Modi),
+        b"CORR" => Ok(Corr),
+        b"TERM" => Ok(Term),
+        b"EROR" => Ok(Eror),
+        b"REVI" => Ok(Revi),
+        b"PRTO" => Ok(Prto),
+        _ => Err(ACTION_TYPE),
     }
-    if is_code(v, b"MODI") {
-        return Checked::Value(Modi);
-    }
-    if is_code(v, b"CORR") {
-        return Checked::Value(Corr);
-    }
-    if is_code(v, b"TERM") {
-        return Checked::Value(Term);
-    }
-    if is_code(v, b"EROR") {
-        return Checked::Value(Eror);
-    }
-    if is_code(v, b"REVI") {
-        return Checked::Value(Revi);
-    }
-    if is_code(v, b"PRTO") {
-        return Checked::Value(Prto);
-    }
-    Checked::Fault(ACTION_TYPE)
 }

@@ -1,13 +1,19 @@
--- Laws of `before`: for a loop that compares at place i, and that it is the order of time. Assumes nothing.
+-- Laws of `before`: it is the order of std, and that of time; and what a pattern tells of each pair of bytes. Assumes nothing.
 use Prim.Native.Nat.{ℕ, ◌+◌, ◌-◌, ◌*◌, ◌<◌, ◌≤◌}
 use Prim.Native.Char.{code}
-use mathlib.Core.Bool.{Bool, true, false, false≢true}
+use mathlib.Core.Bool.{Bool, true, false, ◌&&◌, false≢true}
 use mathlib.Core.Path.{◌≡◌, refl, sym, ap, ◌∙◌}
 use mathlib.Core.List.{[], ◌∷◌}
-use lib.ListN.{length, get_or, drop, drop_of_length-le}
+use lib.ListN.{length, get_or}
 use lib.Dec.{ltb, leb, eqb}
 use borrow.Author.Tests.{eq-eqb, ne_eqb, lt-ltb, le-ltb, ltb-true, ltb-false, eqb-true, eqb-false, leb-true}
 use native.Mathlib.Omega.{arith}
+use Rattle.std.specs.Prelude.{Some}
+use Rattle.std.specs.List.{list_all, zip}
+use Rattle.std.specs.Ordering.{nat_cmp, is_lt, is_some_and}
+use Rattle.std.specs.Cmp.Lexicographic.{slice_partial_cmp}
+use Rattle.std.proofs.lemmas.Cmp.{same_from_slice_cmp_tested}
+use Rattle.std.proofs.lemmas.Bool.Decides.{nat_tests}
 use Rattle.octets.specs.Bytes.{Bytes}
 use Rattle.octets.specs.Choice.{choose, both, either}
 use Rattle.octets.specs.Search.{all_from}
@@ -15,37 +21,12 @@ use Rattle.octets.proofs.ChoiceLaws.{both_first, both_second}
 use Rattle.values.specs.Run.{in_class}
 use Rattle.values.specs.declared.run.Class.TheVariants.{Digit}
 use Rattle.octets.proofs.SearchLaws.{all_shift}
-use Rattle.octets.proofs.WriteLaws.{drop_next}
 use Rattle.dates.specs.Dates.{fits_byte, fits_at, fits_pattern, date_pattern, is_date, time_pattern, is_time, before, number, DateOrder, TimeOrder}
 
--- nothing is before what has no bytes left
-pub before_none : (a : Bytes) → before a [] ≡ false
+-- std's order of two texts is `before`
+pub less_before : (a b : Bytes) (r : Bool) → r ≡ is_some_and is_lt (slice_partial_cmp (λ x y. Some (nat_cmp x y)) a b) → r ≡ before a b
 unfolding before
-before_none [] = refl
-before_none (x ∷ a) = refl
-
-module _ (a b : Bytes) (i : ℕ) (h : i < length b) where
-  -- a has no byte left, b has one
-  pub before_short : length a ≤ i → before (drop i a) (drop i b) ≡ true
-  unfolding before
-  before_short l = rw (drop_of_length-le a {i = i} l, drop_next b i h)
-
-  -- equal bytes: the rest decides
-  pub before_more : i < length a → get_or a i 0 ≡ get_or b i 0 → before (drop i a) (drop i b) ≡ before (drop (i + 1) a) (drop (i + 1) b)
-  unfolding before
-  before_more l e =
-      let ge : get_or b i 0 ≤ get_or a i 0 = omega arith in
-      let same : ltb (get_or a i 0) (get_or b i 0) ≡ false = le-ltb _ _ ge in
-      rw (drop_next a i l, drop_next b i h, same, eq-eqb _ _ e)
-
-  -- other bytes decide
-  pub before_here : i < length a → (get_or a i 0 ≡ get_or b i 0 → ⊥) → before (drop i a) (drop i b) ≡ ltb (get_or a i 0) (get_or b i 0)
-  unfolding before
-  before_here l ne = rw (drop_next a i l, drop_next b i h, ne_eqb _ _ ne) (by (ltb (get_or a i 0) (get_or b i 0)))
-    where
-      by : (t : Bool) → either t false ≡ t
-      by true = refl
-      by false = refl
+less_before = same_from_slice_cmp_tested nat_cmp is_lt before refl (λ _ _. refl) (λ _ _. refl) (λ x y a b o h. grind (arith, nat_tests))
 
 -- ---- the order of bytes is that of time: two values of one pattern compare as the numbers of their digits do
 
@@ -193,3 +174,23 @@ date_order a b e f = pattern_order date_pattern a b (both_first (fits_pattern da
 pub time_order : TimeOrder
 unfolding is_time
 time_order a b e f = pattern_order time_pattern a b (both_first (fits_pattern time_pattern a) _ e) (both_first (fits_pattern time_pattern b) _ f)
+
+-- a test of two texts at each place, as the test of each pair
+all_pairs : (f : ℕ → ℕ → Bool) (v p : Bytes) → length v ≡ length p → all_from (λ k. f (get_or p k 0) (get_or v k 0)) 0 (length v) ≡ list_all (λ (q : ℕ × ℕ). f q.1 q.0) (zip v p)
+unfolding all_from
+all_pairs f [] p l = refl
+all_pairs f (b ∷ v) [] l = absurd (omega arith)
+all_pairs f (b ∷ v) (q ∷ p) l = by (f q b) (all_shift (λ k. f (get_or (q ∷ p) k 0) (get_or (b ∷ v) k 0)) 0 (length v) ∙ all_pairs f v p (omega arith))
+  where
+    by : (t : Bool) → all_from (λ k. f (get_or (q ∷ p) k 0) (get_or (b ∷ v) k 0)) 1 (length v) ≡ list_all (λ (q : ℕ × ℕ). f q.1 q.0) (zip v p) → both t (all_from (λ k. f (get_or (q ∷ p) k 0) (get_or (b ∷ v) k 0)) 1 (length v)) ≡ (t && list_all (λ (q : ℕ × ℕ). f q.1 q.0) (zip v p))
+    by true e = e
+    by false e = refl
+
+abbrev pub pair_fits : ℕ × ℕ → Bool
+pair_fits q = fits_byte q.1 q.0
+
+pub fits_pairs : (p v : Bytes) → length v ≡ length p → list_all pair_fits (zip v p) ≡ fits_pattern p v
+unfolding fits_pattern
+fits_pairs p v l = rw (eq-eqb _ _ l) (sym (all_pairs fits_byte v p l))
+
+pub ruleset orders = (less_before, date_order, time_order)

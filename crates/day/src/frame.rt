@@ -11,7 +11,8 @@ pub const LENGTH_SIZE: usize = 2;
 pub const LONGEST_FRAME: usize = LENGTH_SIZE + 65_535;
 
 // What stands at the front of the input: a message or one that is too long, with its length, or no whole one.
-#[derive(Clone, Copy)]
+// Stays: no Option and no Result: three cases, and of a message that is too long the length is used as well.
+#[derive(Clone, Copy, Debug, PartialEq, Eq)]
 pub enum Frame {
     Message(usize),
     Overlong(usize),
@@ -19,6 +20,7 @@ pub enum Frame {
 }
 
 // Reads the length at the front, and looks whether so many bytes have come.
+#[tactic(auto, unfolding(crate::specs::Frame::frame_of))]
 pub fn next_frame(input: &[u8], longest: usize) -> Frame
     ensures value { result ≡ frame_of longest input.now }
     ensures within_input { WithinInput input.now result }
@@ -28,22 +30,19 @@ pub fn next_frame(input: &[u8], longest: usize) -> Frame
     }
     let n = read_at(input, 0, LENGTH_SIZE) as usize;
     if input.len() - LENGTH_SIZE < n {
-        return Frame::Partial;
+        Frame::Partial
+    } else if longest < n {
+        Frame::Overlong(n)
+    } else {
+        Frame::Message(n)
     }
-    if longest < n {
-        return Frame::Overlong(n);
-    }
-    Frame::Message(n)
 }
 
 // Moves the n bytes from `from` on to the front.
+#[tactic(auto, unfolding(octets::specs::Part::splice))]
 pub fn keep(input: &mut [u8], from: usize, n: usize)
     requires { from + n ≤ length input.old }
     ensures { input.new ≡ splice input.old 0 (part input.old from n) }
 {
-    let mut i = 0;
-    while i < n {
-        input[i] = input[from + i];
-        i += 1;
-    }
+    input.copy_within(from..from + n, 0);
 }

@@ -2,7 +2,7 @@
 ghost use Rattle.std.specs.Prelude.{◌≡◌, [], ◌∷◌, ◌++◌, ◌+◌, ◌≤◌, length};
 ghost use Rattle.day.specs.Report.{digit_count, DecimalFewest, decimal, most_digits, longest_line, heading, report_line, last_word, last_line, space, Put};
 
-use octets::{copy_at, digits_at, fill_at};
+use octets::{copy_at, digits_at};
 
 // The most digits of a number of 64 bits.
 const MOST_DIGITS: usize = 20;
@@ -11,20 +11,19 @@ const MOST_DIGITS: usize = 20;
 pub const LONGEST_LINE: usize = 4 * (MOST_DIGITS + 1);
 
 // The number of digits of n.
+#[tactic(auto, unfolding(crate::specs::Report::digit_count), using(crate::proofs::ReportLaws::digits_turn))]
 fn digit_count(n: u64) -> usize
     ensures value { (result ≡ digit_count n) × (result ≤ most_digits) }
     ensures decimal_fewest { DecimalFewest }
 {
     let mut rest = n;
-    let mut count: usize = 1;
-    while count < MOST_DIGITS {
+    for count in 1..MOST_DIGITS {
         if rest < 10 {
             return count;
         }
-        rest = rest / 10;
-        count += 1;
+        rest /= 10;
     }
-    count
+    MOST_DIGITS
 }
 
 // A text and the byte behind it.
@@ -34,11 +33,12 @@ fn put_text(out: &mut [u8], at: usize, s: &[u8], end: u8) -> usize
 {
     copy_at(out, at, s);
     let next = at + s.len();
-    fill_at(out, next, 1, end);
+    out[next] = end;
     next + 1
 }
 
 // A number and the byte behind it.
+// Stays: digits put one by one and no `write!`: what `fmt` writes is nothing that a proof knows.
 fn put_number(out: &mut [u8], at: usize, n: u64, end: u8) -> usize
     requires { at + (most_digits + 1) ≤ length out.old }
     ensures put { Put out.old at (decimal n ++ (end ∷ [])) out.new result }
@@ -47,10 +47,11 @@ fn put_number(out: &mut [u8], at: usize, n: u64, end: u8) -> usize
     let count = digit_count(n);
     digits_at(out, at, count, n);
     let next = at + count;
-    fill_at(out, next, 1, end);
+    out[next] = end;
     next + 1
 }
 
+// Stays: the room behind `at` is asked of each function, no type for buffer and end: the end moves on with each piece that is put.
 // The first line.
 pub fn write_heading(out: &mut [u8], at: usize) -> usize
     requires { at + longest_line ≤ length out.old }
@@ -83,15 +84,14 @@ pub fn write_line(
 }
 
 // The word that opens the last line.
+#[tactic(auto, unfolding(octets::specs::Text::text))]
 fn put_word(out: &mut [u8], at: usize, is_cut: bool) -> usize
     requires { at + (most_digits + 1) ≤ length out.old }
     ensures put { Put out.old at (last_word is_cut ++ (space ∷ [])) out.new result }
     ensures upper_bound { result ≤ at + (most_digits + 1) }
 {
-    if is_cut {
-        return put_text(out, at, b"cut", b' ');
-    }
-    put_text(out, at, b"end", b' ')
+    let word = if is_cut { b"cut" } else { b"end" };
+    put_text(out, at, word, b' ')
 }
 
 // The last line.

@@ -9,12 +9,15 @@ ghost use Rattle.dayrun.specs.Progress.{counted, step_at, progress_after, Steps}
 
 use day::{Frame, LENGTH_SIZE, next_frame, write_line};
 use octets::part_of;
-use repository::{Answer, LARGEST_CAPACITY, LONGEST_MESSAGE, refusal, submit};
-use rules::LAYOUT_WRONG;
+use repository::{Answer, LARGEST_CAPACITY, LONGEST_MESSAGE, Refusal, submit};
+
+// What a message above the longest is refused for.
+const OVERLONG: Refusal = Refusal::Message(rules::Refusal::LayoutWrong);
 
 // How far the day has come: bytes of the input that are passed, bytes of the report that wait to be written, messages
 // judged, lines published, and whether the report can still be written.
-#[derive(Clone, Copy)]
+// Stays: is_open is no Option of the rest: clause 11.10 stops the writing alone, and the contracts go on with the numbers.
+#[derive(Clone, Copy, Debug, PartialEq, Eq)]
 pub struct Progress {
     pub at: usize,
     pub used: usize,
@@ -24,11 +27,12 @@ pub struct Progress {
 }
 
 // The lines that an answer publishes.
+#[tactic(auto, unfolding(crate::specs::Day::lines_of))]
 fn lines_of(identifier: u64) -> u64
     ensures value { result ≡ lines_of identifier }
     ensures upper_bound { result ≤ 1 }
 {
-    if identifier == 0 { 0 } else { 1 }
+    u64::from(identifier != 0)
 }
 
 // Adds the line of a message that takes so many bytes of the input.
@@ -48,11 +52,13 @@ fn report(out: &mut [u8], p: Progress, taken: usize, a: Answer) -> Progress
         used,
         judged: position,
         published: p.published + lines_of(a.identifier),
-        is_open: p.is_open,
+        ..p
     }
 }
 
 // Judges the message at the front of what is left of the input, if it is there whole.
+// Stays: no struct of the five parameters: `run` writes the input and this reads it, and the contracts speak of each by its name.
+#[tactic(auto, using(crate::proofs::DayLaws::judged_at_once))]
 pub fn judge_next(
     ledger: &mut [u8],
     tape: &mut [u8],
@@ -72,15 +78,14 @@ pub fn judge_next(
     ensures steps { Steps (length input.now) p result }
     ensures judged_at_once { JudgedAtOnce }
 {
-    let at = p.at;
-    let rest = &input[at..];
+    let rest = &input[p.at..];
     match next_frame(rest, LONGEST_MESSAGE) {
         Frame::Message(n) => {
             let m = part_of(rest, LENGTH_SIZE, n);
             let a = submit(ledger, tape, m, LONGEST_MESSAGE, LARGEST_CAPACITY);
             report(out, p, LENGTH_SIZE + n, a)
         }
-        Frame::Overlong(n) => report(out, p, LENGTH_SIZE + n, refusal(LAYOUT_WRONG, 0)),
+        Frame::Overlong(n) => report(out, p, LENGTH_SIZE + n, Answer::from(OVERLONG)),
         Frame::Partial => p,
     }
 }

@@ -36,7 +36,7 @@ fn new_ledger() -> [u8; LEDGER_SIZE]
         eq: CAP,
         co: CAP,
     };
-    repository::open(&mut ledger, caps, LARGEST_CAPACITY);
+    let _ = repository::open(&mut ledger, caps, LARGEST_CAPACITY);
     ledger
 }
 

@@ -13,7 +13,6 @@ use crate::input::{can_wait, keep_rest, read_block};
 use crate::judging::{Progress, judge_next};
 use crate::output::{waiting, write_all, write_enough, write_out};
 use day::{write_heading, write_last};
-use octets::part_of;
 use std::rt::HostRuntime;
 
 // The messages that are judged at most, and the reads; no input reaches them.
@@ -24,6 +23,7 @@ const MOST_READS: u64 = u64::MAX;
 // A run that stops before the end of the input leaves some of it over.
 const LEFT_OVER: usize = 1;
 
+// Stays: room in the report is asked of three functions, no array of OUTPUT_SIZE: the law JudgedUpTo is of a report of any size.
 // The first line waits to be written.
 fn start(out: &mut [u8]) -> Progress
     requires { write_size + longest_line ≤ length out.old }
@@ -47,11 +47,12 @@ fn finish(rt: &HostRuntime, out: &mut [u8], p: Progress, kept: usize)
 {
     if p.is_open {
         let used = write_last(out, p.used, 0 < kept, p.judged, p.published);
-        write_all(rt, waiting(out, used));
+        let _ = write_all(rt, waiting(out, used));
     }
 }
 
 // Judges the messages that are whole.
+#[tactic(auto, using(crate::proofs::DayLaws::nothing_lost))]
 fn judge_block(
     rt: &HostRuntime,
     ledger: &mut [u8],
@@ -84,13 +85,7 @@ fn judge_block(
 fn from_front(p: Progress) -> Progress
     ensures { result ≡ at_front p }
 {
-    Progress {
-        at: 0,
-        used: p.used,
-        judged: p.judged,
-        published: p.published,
-        is_open: p.is_open,
-    }
+    Progress { at: 0, ..p }
 }
 
 // Writes out what waits where the next read can wait.
@@ -104,6 +99,7 @@ fn before_read(rt: &HostRuntime, out: &[u8], waits: bool, p: Progress) -> Progre
 }
 
 // Reads and judges block by block until the input ends.
+#[tactic(auto, using(crate::proofs::ProgressLaws::start_within))]
 pub fn run(rt: &HostRuntime, ledger: &mut [u8], tape: &mut [u8], input: &mut [u8], out: &mut [u8])
     requires tape_value { lent_of ledger.old tape.old ≡ new_day.lent }
     requires block_size_in_bounds { longest_frame + block_size ≤ length input.old }
@@ -112,8 +108,10 @@ pub fn run(rt: &HostRuntime, ledger: &mut [u8], tape: &mut [u8], input: &mut [u8
     let waits = can_wait(rt);
     let mut p = start(out);
     let mut kept: usize = 0;
-    let mut reads = MOST_READS;
-    while 0 < reads && p.is_open && p.judged < MOST_MESSAGES {
+    for _ in 0..MOST_READS {
+        if !p.is_open || MOST_MESSAGES <= p.judged {
+            break;
+        }
         p = before_read(rt, out, waits, p);
         let got = read_block(rt, input, kept);
         if got == 0 {
@@ -121,10 +119,9 @@ pub fn run(rt: &HostRuntime, ledger: &mut [u8], tape: &mut [u8], input: &mut [u8
             return;
         }
         let n = kept + got;
-        p = judge_block(rt, ledger, tape, part_of(input, 0, n), out, p);
+        p = judge_block(rt, ledger, tape, &input[..n], out, p);
         kept = keep_rest(input, p.at, n);
         p = from_front(p);
-        reads -= 1;
     }
     finish(rt, out, p, LEFT_OVER);
 }

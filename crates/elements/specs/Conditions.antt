@@ -10,6 +10,7 @@ use Rattle.elements.specs.Codes.{cleared, package_indicator, package_price, pric
 use Rattle.elements.specs.declared.table.Condition.{Condition}
 use Rattle.elements.specs.declared.table.Condition.TheVariants.{Never, Always, ClearedIsN, Package, NoSpread, HasPrice, MonetaryPrice, HasSpread, MonetarySpread}
 use Rattle.elements.specs.declared.conditions.Quote.{Quote}
+use Rattle.elements.specs.declared.conditions.Quote.TheVariants.{Missing, Other, Monetary}
 use Rattle.elements.specs.declared.conditions.Facts.{Facts}
 use Rattle.elements.specs.Table.{element_of}
 
@@ -27,7 +28,19 @@ is_quoted code m = both (is_package m) (is_there code m)
 
 -- of a price or a spread with its notation: a package has it, and the notation is 1
 unfoldable pub quote_of : ℕ → ℕ → Bytes → Quote
-quote_of code notation m = record { there = is_quoted code m; monetary = both (is_quoted code m) (value_is notation (text "1") m) }
+quote_of code notation m = choose (is_quoted code m) (choose (value_is notation (text "1") m) Monetary Other) Missing
+
+-- a package has it
+abbrev pub is_quote : Quote → Bool
+is_quote Missing = false
+is_quote Other = true
+is_quote Monetary = true
+
+-- and its notation is 1
+abbrev pub is_monetary : Quote → Bool
+is_monetary Missing = false
+is_monetary Other = false
+is_monetary Monetary = true
 
 -- what the "if"s ask of a message
 unfoldable pub facts_of : Bytes → Facts
@@ -45,11 +58,11 @@ met Never f = false
 met Always f = true
 met ClearedIsN f = f.uncleared
 met Package f = f.packaged
-met NoSpread f = both f.packaged (not f.spread.there)
-met HasPrice f = f.price.there
-met MonetaryPrice f = f.price.monetary
-met HasSpread f = f.spread.there
-met MonetarySpread f = f.spread.monetary
+met NoSpread f = both f.packaged (not (is_quote f.spread))
+met HasPrice f = is_quote f.price
+met MonetaryPrice f = is_monetary f.price
+met HasSpread f = is_quote f.spread
+met MonetarySpread f = is_monetary f.spread
 
 -- the element is due under its "if"
 unfoldable pub is_due : ℕ → Bytes → Bool

@@ -1,5 +1,5 @@
 -- Specification, sections 3 and 4: the form of each element (verdict 9).
-use Rattle.std.specs.Prelude.{ℕ, Bool, true, false}
+use Rattle.std.specs.Prelude.{ℕ, Bool, true, false, Err, Ok, Result}
 use Rattle.octets.specs.Bytes.{Bytes}
 use Rattle.values.specs.Run.{is_uti, is_event, is_package_identifier}
 use Rattle.values.specs.Code.{is_truth, is_cleared, is_allocation, is_price_notation, is_spread_notation, is_asset_class}
@@ -8,16 +8,14 @@ use Rattle.iso.specs.Codes.{is_currency, is_location}
 use Rattle.numbers.specs.Numbers.{is_price, is_notional}
 use Rattle.dates.specs.Dates.{is_date, is_time}
 use Rattle.actions.specs.Actions.{action_of}
-use Rattle.actions.specs.declared.Checked.{Checked}
-use Rattle.actions.specs.declared.Checked.TheVariants.{Fault, Value}
 use Rattle.elements.specs.declared.table.Form.{Form}
 use Rattle.elements.specs.declared.table.Form.TheVariants.{Unknown, Uti, Action, Event, Time, Date, Cleared, Truth, Allocation, PackageIdentifier, Price, PriceNotation, SpreadNotation, Currency, Notional, Location, Lei, AssetClass}
 use Rattle.elements.specs.Table.{element_of}
 
 -- one of the seven
-abbrev pub is_read : Checked → Bool
-is_read (Fault code) = false
-is_read (Value a) = true
+abbrev pub is_read : {T E : Type 0} → Result T E → Bool
+is_read (Err code) = false
+is_read (Ok a) = true
 
 -- a value has a form; there is none for a code that no element has
 abbrev pub fits : Form → Bytes → Bool

@@ -1,31 +1,56 @@
 // Elements that are needed under a condition, and what is left out where it is not met.
 ghost use Rattle.std.specs.Prelude.{◌≡◌};
-ghost use Rattle.octets.specs.Part.{PartOf};
-ghost use Rattle.message.specs.Values.{offset_of};
-ghost use Rattle.elements.specs.Conditions.{is_package, value_is, quote_of, facts_of, met, kept};
+ghost use Rattle.elements.specs.Conditions.{is_package, value_is, is_quote, quote_of, facts_of, met};
 ghost use Rattle.elements.specs.Table.{element_of};
 
 use crate::table::{Condition, element_of};
 use crate::{
-    CLEARED, PACKAGE_INDICATOR, PACKAGE_PRICE, PACKAGE_SPREAD, PRICE_NOTATION, SPREAD_NOTATION,
+    CLEARED, PACKAGE_INDICATOR, PACKAGE_PRICE, PACKAGE_SPREAD, PRICE_CURRENCY, PRICE_NOTATION,
+    SPREAD_CURRENCY, SPREAD_NOTATION,
 };
 use message::element;
 use octets::same;
 
-// What the conditions ask of a price or a spread: a package has it; and its notation is 1.
-#[derive(Clone, Copy)]
-pub struct Quote {
-    pub there: bool,
-    pub monetary: bool,
+// The codes of a price or a spread: its number, its notation, its currency.
+#[derive(Clone, Copy, Debug, PartialEq, Eq)]
+pub struct QuoteCodes {
+    pub number: u8,
+    pub notation: u8,
+    pub currency: u8,
 }
 
-const NO_QUOTE: Quote = Quote {
-    there: false,
-    monetary: false,
-};
+impl QuoteCodes {
+    pub const PRICE: QuoteCodes = QuoteCodes {
+        number: PACKAGE_PRICE,
+        notation: PRICE_NOTATION,
+        currency: PRICE_CURRENCY,
+    };
+
+    pub const SPREAD: QuoteCodes = QuoteCodes {
+        number: PACKAGE_SPREAD,
+        notation: SPREAD_NOTATION,
+        currency: SPREAD_CURRENCY,
+    };
+}
+
+// What the conditions ask of a price or a spread: whether a package has it, and then whether its notation is 1, monetary.
+#[derive(Clone, Copy, Debug, PartialEq, Eq)]
+pub enum Quote {
+    Missing,
+    Other,
+    Monetary,
+}
+
+impl Quote {
+    pub fn is_there(self) -> bool
+        ensures { result ≡ is_quote self }
+    {
+        self != Quote::Missing
+    }
+}
 
 // What the conditions ask: Cleared is N; 15 is true; price and spread.
-#[derive(Clone, Copy)]
+#[derive(Clone, Copy, Debug, PartialEq, Eq)]
 pub struct Facts {
     pub uncleared: bool,
     pub packaged: bool,
@@ -33,15 +58,8 @@ pub struct Facts {
     pub spread: Quote,
 }
 
-// What a check is handed that asks for no facts.
-pub const NO_FACTS: Facts = Facts {
-    uncleared: false,
-    packaged: false,
-    price: NO_QUOTE,
-    spread: NO_QUOTE,
-};
-
 // Whether the package indicator is true.
+#[tactic(auto, unfolding(crate::specs::Conditions::is_package))]
 fn is_package(m: &[u8]) -> bool
     ensures { result ≡ is_package m.now }
 {
@@ -49,6 +67,7 @@ fn is_package(m: &[u8]) -> bool
 }
 
 // Whether the value of an element is this one.
+#[tactic(auto, unfolding(crate::specs::Conditions::value_is))]
 pub fn value_is(m: &[u8], code: u8, v: &[u8]) -> bool
     ensures { result ≡ value_is code v.now m.now }
 {
@@ -56,31 +75,29 @@ pub fn value_is(m: &[u8], code: u8, v: &[u8]) -> bool
 }
 
 // What the conditions ask of a price or a spread.
-fn quote_of(m: &[u8], packaged: bool, code: u8, notation: u8) -> Quote
+#[tactic(auto, unfolding(crate::specs::Conditions::quote_of, crate::specs::Conditions::is_quoted, message::specs::Values::is_there, octets::specs::Text::text))]
+fn quote_of(m: &[u8], packaged: bool, codes: QuoteCodes) -> Quote
     requires { packaged ≡ is_package m.now }
-    ensures { result ≡ quote_of code notation m.now }
+    ensures { result ≡ quote_of codes.number codes.notation m.now }
 {
-    if !packaged {
-        return NO_QUOTE;
+    if !packaged || element(m, codes.number).is_empty() {
+        return Quote::Missing;
     }
-    if element(m, code).len() == 0 {
-        return NO_QUOTE;
+    if value_is(m, codes.notation, b"1") {
+        return Quote::Monetary;
     }
-    let monetary = value_is(m, notation, b"1");
-    Quote {
-        there: true,
-        monetary,
-    }
+    Quote::Other
 }
 
 // What the conditions ask of a message.
+#[tactic(auto, unfolding(crate::specs::Conditions::facts_of, octets::specs::Text::text))]
 pub fn facts_of(m: &[u8]) -> Facts
     ensures { result ≡ facts_of m.now }
 {
     let uncleared = value_is(m, CLEARED, b"N");
     let packaged = is_package(m);
-    let price = quote_of(m, packaged, PACKAGE_PRICE, PRICE_NOTATION);
-    let spread = quote_of(m, packaged, PACKAGE_SPREAD, SPREAD_NOTATION);
+    let price = quote_of(m, packaged, QuoteCodes::PRICE);
+    let spread = quote_of(m, packaged, QuoteCodes::SPREAD);
     Facts {
         uncleared,
         packaged,
@@ -90,7 +107,7 @@ pub fn facts_of(m: &[u8]) -> Facts
 }
 
 // Whether a condition is met.
-fn is_met(condition: Condition, facts: Facts) -> bool
+pub fn is_met(condition: Condition, facts: Facts) -> bool
     ensures { result ≡ met condition facts }
 {
     match condition {
@@ -98,11 +115,11 @@ fn is_met(condition: Condition, facts: Facts) -> bool
         Condition::Always => true,
         Condition::ClearedIsN => facts.uncleared,
         Condition::Package => facts.packaged,
-        Condition::NoSpread => facts.packaged && !facts.spread.there,
-        Condition::HasPrice => facts.price.there,
-        Condition::MonetaryPrice => facts.price.monetary,
-        Condition::HasSpread => facts.spread.there,
-        Condition::MonetarySpread => facts.spread.monetary,
+        Condition::NoSpread => facts.packaged && !facts.spread.is_there(),
+        Condition::HasPrice => facts.price.is_there(),
+        Condition::MonetaryPrice => facts.price == Quote::Monetary,
+        Condition::HasSpread => facts.spread.is_there(),
+        Condition::MonetarySpread => facts.spread == Quote::Monetary,
     }
 }
 
@@ -110,18 +127,5 @@ fn is_met(condition: Condition, facts: Facts) -> bool
 pub fn is_due(facts: Facts, code: u8) -> bool
     ensures { result ≡ met (element_of code).due facts }
 {
-    let due = element_of(code).due;
-    is_met(due, facts)
-}
-
-// The value of an element; nothing where its condition is not met.
-pub fn kept<'a>(m: &'a [u8], facts: Facts, code: u8) -> &'a [u8]
-    requires { facts ≡ facts_of m.now }
-    ensures { (result.now ≡ kept code m.now) × PartOf m.entry (offset_of code m.now) result }
-{
-    let shown = element_of(code).shown;
-    if is_met(shown, facts) {
-        return element(m, code);
-    }
-    &m[..0]
+    is_met(element_of(code).due, facts)
 }

@@ -4,17 +4,12 @@ ghost use Rattle.elements.specs.Forms.{is_read, fits, has_form};
 ghost use Rattle.actions.specs.Actions.{action_of};
 
 use crate::table::{Form, element_of};
-use actions::Checked;
 
 // Whether the value is one of the seven actions.
 fn is_action(v: &[u8]) -> bool
     ensures { result ≡ is_read (action_of v.now) }
 {
-    let read = actions::read_action(v);
-    if let Checked::Value(_) = read {
-        return true;
-    }
-    false
+    actions::read_action(v).is_ok()
 }
 
 fn fits_form(form: Form, v: &[u8]) -> bool
@@ -43,9 +38,9 @@ fn fits_form(form: Form, v: &[u8]) -> bool
 }
 
 // Whether a value has the form of the element with a code.
+#[tactic(auto, unfolding(crate::specs::Forms::has_form))]
 pub fn has_form(code: u8, v: &[u8]) -> bool
     ensures { result ≡ has_form code v.now }
 {
-    let form = element_of(code).form;
-    fits_form(form, v)
+    fits_form(element_of(code).form, v)
 }

@@ -5,14 +5,17 @@
 mod conditions;
 mod forms;
 mod messages;
+mod shown;
 mod table;
 
-pub use conditions::{Facts, NO_FACTS, facts_of, is_due, kept, value_is};
+pub use conditions::{Facts, Quote, QuoteCodes, facts_of, is_due, value_is};
 pub use forms::has_form;
 pub use messages::{has_layout, is_needed, is_taken, taken_up_to};
+pub use shown::MessageFacts;
 pub use table::LAST_CODE;
 
 // The codes that a rule or the tape line speaks of by name, as specs/Codes.antt has them.
+// Stays: numbers, no enum: a message carries them as two bytes, the checks go through them in order, and refusals name them to a C host.
 pub const UTI: u8 = 1;
 
 pub const EVENT_TYPE: u8 = 3;

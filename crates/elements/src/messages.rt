@@ -7,6 +7,7 @@ use actions::Action;
 use message::layout_right;
 
 // Whether a message of at most `longest` bytes is laid out right, with the codes that are known.
+#[tactic(auto, unfolding(crate::specs::Messages::has_layout, crate::specs::Messages::most_entries, crate::specs::Messages::how_many, crate::specs::Messages::known))]
 pub fn has_layout(m: &[u8], longest: usize) -> bool
     ensures { result ≡ has_layout longest m.now }
 {
@@ -27,19 +28,19 @@ fn is_among(kinds: Kinds, a: Action) -> bool
 }
 
 // Whether a message of the action may have the element.
+#[tactic(auto, unfolding(crate::specs::Messages::takes))]
 pub fn is_taken(a: Action, code: u8) -> bool
     ensures { result ≡ takes a code }
 {
-    let taken = element_of(code).taken;
-    is_among(taken, a)
+    is_among(element_of(code).taken, a)
 }
 
 // Whether a message of the action needs the element, whatever else it has.
+#[tactic(auto, unfolding(crate::specs::Messages::needs))]
 pub fn is_needed(a: Action, code: u8) -> bool
     ensures { result ≡ needs a code }
 {
-    let needed = element_of(code).needed;
-    is_among(needed, a)
+    is_among(element_of(code).needed, a)
 }
 
 // A code up to which the action takes each one.

@@ -7,7 +7,7 @@ use Form::*;
 use Kinds::*;
 use Public::*;
 
-#[derive(Clone, Copy)]
+#[derive(Clone, Copy, Debug, PartialEq, Eq)]
 pub enum Form {
     Unknown,
     Uti,
@@ -30,14 +30,14 @@ pub enum Form {
 }
 
 // Kinds of messages.
-#[derive(Clone, Copy)]
+#[derive(Clone, Copy, Debug, PartialEq, Eq)]
 pub enum Kinds {
     None,
     All,
     Full,
 }
 
-#[derive(Clone, Copy)]
+#[derive(Clone, Copy, Debug, PartialEq, Eq)]
 pub enum Condition {
     Never,
     Always,
@@ -50,7 +50,7 @@ pub enum Condition {
     MonetarySpread,
 }
 
-#[derive(Clone, Copy)]
+#[derive(Clone, Copy, Debug, PartialEq, Eq)]
 pub enum Public {
     Hidden,
     Masked,
@@ -59,7 +59,7 @@ pub enum Public {
 
 // What the table says of an element: the form of its value, the messages that take it and those that need it, when it is due beside
 // that, when it is shown, and whether it is public.
-#[derive(Clone, Copy)]
+#[derive(Clone, Copy, Debug, PartialEq, Eq)]
 pub struct Element {
     pub form: Form,
     pub taken: Kinds,
@@ -81,6 +81,7 @@ pub const LAST_SHORT: u8 = 5;
 pub const MOST_ENTRIES: usize = LAST_CODE as usize;
 
 // A row, in the order of the columns.
+// Stays: as a struct literal with named fields a row takes eight lines, and the table is no longer seen at one look.
 fn row(
     form: Form,
     taken: Kinds,
@@ -102,6 +103,7 @@ fn row(
 }
 
 // The element with a code.
+#[tactic(auto, unfolding(crate::specs::Table::element_of))]
 pub fn element_of(code: u8) -> Element
     ensures { result ≡ element_of code }
 {

@@ -11,6 +11,7 @@ use lib.ListN.{length, get_or, get_or-eq_default}
 use lib.Dec.{leb, ltb}
 use borrow.Author.Tests.{leb-true, ltb-true, ltb-false, lt-ltb}
 use types.Run.{OneOf}
+use Rattle.std.specs.Int.{w32, from_be_bytes}
 use Rattle.octets.specs.Bytes.{Bytes}
 use Rattle.octets.specs.Choice.{choose, both, either}
 use Rattle.octets.specs.Text.{text}
@@ -128,22 +129,22 @@ number_same (x ∷ u) (y ∷ v) l f g e =
     let same = read_on-same x y u v (omega arith) (λ k. f (suc k)) (λ k. g (suc k)) n in
     ap₂ ◌∷◌ same.0 same.1
 
--- ---- a value whose bytes were read one by one
+-- ---- the number of a value, read from its bytes
 
--- the bytes u are those of v from k on
-abbrev pub ReadFrom : ℕ → Bytes → Bytes → Type 0
-ReadFrom k v [] = Unit {0}
-ReadFrom k v (x ∷ u) = (x ≡ get_or v k 0) × ReadFrom (suc k) v u
+pub number_two : (v : Bytes) → length v ≡ 2 → from_be_bytes w32 (0 ∷ get_or v 0 0 ∷ get_or v 1 0 ∷ 0 ∷ []) ≡ number v
+unfolding number read_on
+number_two [] l = absurd (omega arith)
+number_two (a ∷ []) l = absurd (omega arith)
+number_two (a ∷ b ∷ []) l = omega arith
+number_two (a ∷ b ∷ c ∷ v) l = absurd (omega arith)
 
-read_behind : (k y : ℕ) (v u : Bytes) → ReadFrom (suc k) (y ∷ v) u → ReadFrom k v u
-read_behind k y v [] r = tt
-read_behind k y v (x ∷ u) r = (r.0, read_behind (suc k) y v u r.1)
-
-read_same : (v u : Bytes) → length v ≡ length u → ReadFrom 0 v u → u ≡ v
-read_same [] [] l r = refl
-read_same [] (x ∷ u) l r = absurd (omega arith)
-read_same (y ∷ v) [] l r = absurd (omega arith)
-read_same (y ∷ v) (x ∷ u) l r = ap₂ ◌∷◌ r.0 (read_same v u (omega arith) (read_behind 0 y v u r.1))
+pub number_three : (v : Bytes) → length v ≡ 3 → from_be_bytes w32 (get_or v 0 0 ∷ get_or v 1 0 ∷ get_or v 2 0 ∷ 0 ∷ []) ≡ number v
+unfolding number read_on
+number_three [] l = absurd (omega arith)
+number_three (a ∷ []) l = absurd (omega arith)
+number_three (a ∷ b ∷ []) l = absurd (omega arith)
+number_three (a ∷ b ∷ c ∷ []) l = omega arith
+number_three (a ∷ b ∷ c ∷ d ∷ v) l = absurd (omega arith)
 
 -- ---- a number is the first of a list or one of the others
 
@@ -190,8 +191,8 @@ module _ (w : ℕ) (cs : List String) (test : capitals w cs ≡ true) (v : Bytes
   pub other_length : (length v ≡ w → ⊥) → false ≡ one_of cs v
   other_length h = sym (not_true_false (one_of cs v) (λ o. h (capitals_length w v (listed_capitals o))))
 
-  pub listed : (u : Bytes) → length u ≡ w → ReadFrom 0 v u → length v ≡ w → EachByte v → OneOf (numbers cs) (number u) → true ≡ one_of cs v
-  listed u k r l f h = sym (to_code w cs v test l f (subst (λ b. OneOf (numbers cs) (number b)) (read_same v u (l ∙ sym k) r) h))
+  pub listed : (n : ℕ) → n ≡ number v → length v ≡ w → EachByte v → OneOf (numbers cs) n → true ≡ one_of cs v
+  listed n e l f h = sym (to_code w cs v test l f (subst (OneOf (numbers cs)) e h))
 
-  pub not_listed : (u : Bytes) → length u ≡ w → ReadFrom 0 v u → length v ≡ w → (OneOf (numbers cs) (number u) → ⊥) → false ≡ one_of cs v
-  not_listed u k r l h = sym (not_true_false (one_of cs v) (λ o. h (subst (λ b. OneOf (numbers cs) (number b)) (sym (read_same v u (l ∙ sym k) r)) (to_number cs v o))))
+  pub not_listed : (n : ℕ) → n ≡ number v → (OneOf (numbers cs) n → ⊥) → false ≡ one_of cs v
+  not_listed n e h = sym (not_true_false (one_of cs v) (λ o. h (subst (OneOf (numbers cs)) (sym e) (to_number cs v o))))

@@ -6,22 +6,17 @@
 ghost use Rattle.std.specs.Prelude.{◌≡◌};
 ghost use Rattle.iso.specs.Codes.{is_currency, is_location, CurrencyCapitals, LocationCapitals};
 
-use octets::byte_at;
-use values::{CURRENCY_SIZE, LOCATION_SIZE};
+// Stays: a match for each list, not one search over both: a match takes 48 instructions, a search of 180 codes 489.
 
 // Whether the value is a currency (codes 19, 21 and 28).
 pub fn is_currency(v: &[u8]) -> bool
     ensures value { result ≡ is_currency v.now }
     ensures currency_capitals { CurrencyCapitals }
 {
-    if v.len() != CURRENCY_SIZE {
+    let &[a, b, c] = v else {
         return false;
-    }
-    let a = byte_at(v, 0) as u32;
-    let b = byte_at(v, 1) as u32;
-    let c = byte_at(v, 2) as u32;
-    let n = ((a * 256 + b) * 256 + c) * 256;
-    match n {
+    };
+    match u32::from_be_bytes([a, b, c, 0]) {
         0x41_45_44_00 // AED
         | 0x41_46_4E_00 // AFN
         | 0x41_4C_4C_00 // ALL
@@ -211,13 +206,10 @@ pub fn is_location(v: &[u8]) -> bool
     ensures value { result ≡ is_location v.now }
     ensures location_capitals { LocationCapitals }
 {
-    if v.len() != LOCATION_SIZE {
+    let &[a, b] = v else {
         return false;
-    }
-    let a = byte_at(v, 0) as u32;
-    let b = byte_at(v, 1) as u32;
-    let n = (a * 256 + b) * 256;
-    match n {
+    };
+    match u32::from_be_bytes([0, a, b, 0]) {
         0x41_44_00 // AD
         | 0x41_45_00 // AE
         | 0x41_46_00 // AF

@@ -1,4 +1,5 @@
 -- A right header, clause by clause, and what the check of it tells. Assumes nothing.
+use Rattle.std.specs.Prelude.{Some, None, Option}
 use Prim.Native.Nat.{ℕ, ◌≤◌}
 use mathlib.Core.Bool.{Bool, true, false}
 use mathlib.Core.Path.{◌≡◌, refl, subst}
@@ -13,8 +14,6 @@ use Rattle.values.specs.Run.{within}
 use Rattle.ledger.specs.Layout.{header_size, row_size, row_start, shortest_ledger, identifier_limit}
 use Rattle.ledger.specs.Totals.{totals_in, sum_of}
 use Rattle.ledger.specs.declared.header.Header.{Header}
-use Rattle.ledger.specs.declared.header.HeaderCheck.{HeaderCheck}
-use Rattle.ledger.specs.declared.header.HeaderCheck.TheVariants.{Fault, Value}
 use Rattle.ledger.specs.Header.{rows_in_use, first_row, next_identifier, size_of_rows, capacity_in, caps_in, are_caps, capacity_for, header_right, RightHeader, header_of, checked_header}
 
 -- the header is right exactly where each clause holds
@@ -75,15 +74,15 @@ module _ (largest : ℕ) (l : Bytes) (h : RightHeader largest l) where
 
 -- ---- what the check of a ledger tells
 
-abbrev pub HeaderChecked : ℕ → Bytes → HeaderCheck → Type 0
-HeaderChecked largest l Fault = header_right largest l ≡ false
-HeaderChecked largest l (Value h) = (header_right largest l ≡ true) × (h ≡ header_of l)
+abbrev pub HeaderChecked : ℕ → Bytes → Option Header → Type 0
+HeaderChecked largest l None = header_right largest l ≡ false
+HeaderChecked largest l (Some h) = (header_right largest l ≡ true) × (h ≡ header_of l)
 
-pub header_checked : (largest : ℕ) (l : Bytes) (r : HeaderCheck) → checked_header largest l ≡ r → HeaderChecked largest l r
+pub header_checked : (largest : ℕ) (l : Bytes) (r : Option Header) → checked_header largest l ≡ r → HeaderChecked largest l r
 unfolding checked_header
 header_checked largest l r e = subst (HeaderChecked largest l) e (by (header_right largest l) refl)
   where
-    by : (b : Bool) → header_right largest l ≡ b → HeaderChecked largest l (choose b (Value (header_of l)) Fault)
+    by : (b : Bool) → header_right largest l ≡ b → HeaderChecked largest l (choose b (Some (header_of l)) None)
     by true g = (g, refl)
     by false g = g
 

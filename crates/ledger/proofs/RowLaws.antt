@@ -1,11 +1,13 @@
 -- Laws of specs/Rows.antt. Assumes nothing.
-use Prim.Native.Nat.{ℕ, ◌+◌, ◌≤◌}
+use Prim.Native.Nat.{ℕ, ◌+◌, ◌-◌, ◌<◌, ◌≤◌}
 use mathlib.Core.Bool.{true}
 use mathlib.Core.Path.{◌≡◌, refl, sym, ap, ◌∙◌}
-use mathlib.Core.List.{[], ◌∷◌}
+use mathlib.Core.List.{[], ◌∷◌, ◌++◌}
 use native.Mathlib.Omega.{arith}
-use lib.ListN.{length, get_or, drop, take-append-drop}
-use lib.Seq.{drop-drop}
+use lib.ListN.{length, get_or, set, take, drop, take-append-drop}
+use lib.Seq.{drop-drop, set_split}
+use native.Mathlib.Numerals.{add-one}
+use native.Mathlib.Nat.{add-sub_cancel_left}
 use lib.Dec.{eqb}
 use borrow.Author.Tests.{eqb-true}
 use Rattle.octets.specs.Bytes.{Bytes}
@@ -21,6 +23,22 @@ use Rattle.ledger.specs.Rows.{row_at, status_of, holds_uti, with_status}
 pub length_row : (l : Bytes) (k : ℕ) → row_start (k + 1) ≤ length l → length (row_at l k) ≡ row_size
 unfolding row_at
 length_row l k h = length_part l (row_start k) row_size (omega arith)
+
+-- the bytes of a row, as they are lent
+pub row_lent : (l : Bytes) (k : ℕ) → take (row_start k + row_size - row_start k) (drop (row_start k) l) ≡ row_at l k
+unfolding row_at
+row_lent l k = rw add-sub_cancel_left
+
+-- it came back as ys
+pub row_back : (l r ys : Bytes) (at n : ℕ) → r ≡ ys → length ys ≡ n → take at l ++ (r ++ drop n (drop at l)) ≡ splice l at ys
+unfolding splice
+row_back l r ys at n e f = rw (e, drop-drop, ← f)
+
+-- ---- one byte is written
+
+pub byte_written : (d : Bytes) (at b : ℕ) → at < length d → set d at b ≡ splice d at (b ∷ [])
+unfolding splice
+byte_written d at b h = rw add-one (set_split d at b h)
 
 -- ---- what is written as it was
 

@@ -11,7 +11,11 @@ use Rattle.octets.specs.Choice.{choose}
 use Rattle.octets.specs.Number.{from_le, to_le}
 use Rattle.octets.proofs.NumberLaws.{length-to_le, from_le-to_le}
 use Rattle.octets.proofs.PartLaws.{length_splice, part_at, byte_apart}
+use Rattle.actions.specs.declared.statuses.Status.{Status}
+use Rattle.actions.specs.declared.statuses.Status.TheVariants.{Live, Closed, Errored, Ported}
 use Rattle.actions.specs.Statuses.{unknown, live, closed, errored, ported}
+use Rattle.actions.specs.Actions.{number_of}
+use Rattle.ledger.specs.declared.totals.Totals.{Totals}
 use Rattle.ledger.specs.Layout.{u32, total_at, header_size}
 use Rattle.ledger.specs.Totals.{total_in, totals_in, total_of, adds, sum_of, with_total, lowered, totals_after}
 use Rattle.ledger.specs.Header.{rows_in_use, next_identifier, caps_in}
@@ -32,6 +36,14 @@ by_status P one two three four (suc (suc (suc (suc (suc n))))) low high = absurd
 pub total_of_lem : (l : Bytes) (s : ℕ) → live ≤ s → s ≤ ported → total_of (totals_in l) s ≡ total_in s l
 unfolding total_of totals_in
 total_of_lem l = by_status (λ s. total_of (totals_in l) s ≡ total_in s l) refl refl refl refl
+
+-- a number that no status has has no total
+pub none_counted : (t : Totals) (n : ℕ) → ((s : Status) → number_of s ≡ n → ⊥) → 0 ≡ total_of t n
+unfolding total_of
+none_counted t n d = rw (no_number Live, no_number Closed, no_number Errored, no_number Ported) refl
+  where
+    no_number : (s : Status) → eqb n (number_of s) ≡ false
+    no_number s = ne_eqb n (number_of s) (λ e. d s (sym e))
 
 -- none is larger than the sum, nor are two of them together
 pub total_most : (l : Bytes) (s : ℕ) → live ≤ s → s ≤ ported → total_in s l ≤ sum_of (totals_in l)

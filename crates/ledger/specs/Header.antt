@@ -1,5 +1,5 @@
 -- Specification, section 8: the header, and when it is right (verdict 3).
-use Rattle.std.specs.Prelude.{ℕ, ◌-◌, ◌/◌, ◌≤◌, min, Bool, true, ◌≡◌, List, [], ◌∷◌, ◌++◌, length, eqb, leb}
+use Rattle.std.specs.Prelude.{ℕ, ◌-◌, ◌/◌, ◌≤◌, min, Bool, true, ◌≡◌, List, [], ◌∷◌, ◌++◌, length, eqb, leb, None, Option, Some}
 use Prim.Native.String.{String}
 use Rattle.octets.specs.Bytes.{Bytes}
 use Rattle.octets.specs.Choice.{choose, both}
@@ -13,8 +13,6 @@ use Rattle.ledger.specs.Layout.{u32, u64, rows_at, first_row_at, next_at, cap_at
 use Rattle.ledger.specs.Totals.{totals_in, sum_of}
 use Rattle.ledger.specs.declared.header.Caps.{Caps}
 use Rattle.ledger.specs.declared.header.Header.{Header}
-use Rattle.ledger.specs.declared.header.HeaderCheck.{HeaderCheck}
-use Rattle.ledger.specs.declared.header.HeaderCheck.TheVariants.{Fault, Value}
 
 -- ---- the numbers of the header, whatever the bytes
 
@@ -87,8 +85,8 @@ unfoldable pub header_of : Bytes → Header
 header_of l = record { rows = rows_in_use l; next = next_identifier l; capacity = capacity_in l; caps = caps_in l; totals = totals_in l }
 
 -- what the check of a ledger answers: a fault, or the header's numbers
-unfoldable pub checked_header : ℕ → Bytes → HeaderCheck
-checked_header largest l = choose (header_right largest l) (Value (header_of l)) Fault
+unfoldable pub checked_header : ℕ → Bytes → Option Header
+checked_header largest l = choose (header_right largest l) (Some (header_of l)) None
 
 -- ---- the header that opening writes
 

@@ -8,10 +8,10 @@ use crate::layout::{
 };
 use crate::totals::{Totals, read_totals, sum_of};
 use notional::is_cap;
-use octets::{read_at, same};
+use octets::read_at;
 
 // The caps of the asset classes.
-#[derive(Clone, Copy)]
+#[derive(Clone, Copy, Debug, PartialEq, Eq)]
 pub struct Caps {
     pub cr: u64,
     pub ir: u64,
@@ -21,7 +21,7 @@ pub struct Caps {
 }
 
 // The numbers of a right header.
-#[derive(Clone, Copy)]
+#[derive(Clone, Copy, Debug, PartialEq, Eq)]
 pub struct Header {
     pub rows: u64,
     pub next: u64,
@@ -30,67 +30,40 @@ pub struct Header {
     pub totals: Totals,
 }
 
-// What the check of a ledger answers: a fault, or the header's numbers.
-#[derive(Clone, Copy)]
-pub enum HeaderCheck {
-    Fault,
-    Value(Header),
-}
-
 // Whether each cap is one.
+#[tactic(auto, unfolding(crate::specs::Header::are_caps))]
 pub fn are_caps(caps: Caps) -> bool
     ensures { result ≡ are_caps caps }
 {
-    if !is_cap(caps.cr) {
-        return false;
-    }
-    if !is_cap(caps.ir) {
-        return false;
-    }
-    if !is_cap(caps.fx) {
-        return false;
-    }
-    if !is_cap(caps.eq) {
-        return false;
-    }
-    is_cap(caps.co)
+    is_cap(caps.cr) && is_cap(caps.ir) && is_cap(caps.fx) && is_cap(caps.eq) && is_cap(caps.co)
 }
 
 // The cap of an asset class; a value that is no class has none.
+#[tactic(auto, unfolding(crate::specs::Header::cap_for, octets::specs::Same::look_up, octets::specs::Same::same_bytes, octets::specs::Text::text))]
 pub fn cap_for(caps: Caps, class: &[u8]) -> u64
     ensures { result ≡ cap_for caps class.now }
 {
-    if same(class, b"CR") {
-        return caps.cr;
+    match class {
+        b"CR" => caps.cr,
+        b"IR" => caps.ir,
+        b"FX" => caps.fx,
+        b"EQ" => caps.eq,
+        b"CO" => caps.co,
+        _ => 0,
     }
-    if same(class, b"IR") {
-        return caps.ir;
-    }
-    if same(class, b"FX") {
-        return caps.fx;
-    }
-    if same(class, b"EQ") {
-        return caps.eq;
-    }
-    if same(class, b"CO") {
-        return caps.co;
-    }
-    0
 }
 
 // The rows that a ledger of n bytes has room for, or the largest capacity where that is less.
+#[tactic(auto, unfolding(crate::specs::Header::capacity_for))]
 pub fn capacity_for(n: usize, largest: u32) -> u64
     ensures { result ≡ capacity_for largest n }
 {
-    if n < HEADER_SIZE {
-        return 0;
-    }
-    let most = largest as u64;
-    let room = ((n - HEADER_SIZE) / ROW_SIZE) as u64;
-    if room < most { room } else { most }
+    let room = n.saturating_sub(HEADER_SIZE) / ROW_SIZE;
+    (room as u64).min(u64::from(largest))
 }
 
 // The caps in a header.
+#[tactic(auto, unfolding(crate::specs::Header::caps_in))]
 fn read_caps(l: &[u8]) -> Caps
     ensures { result ≡ caps_in l.now }
 {
@@ -104,6 +77,7 @@ fn read_caps(l: &[u8]) -> Caps
 }
 
 // The numbers of a header that a submission uses.
+#[tactic(auto, unfolding(crate::specs::Header::header_of, crate::specs::Header::rows_in_use, crate::specs::Header::next_identifier, crate::specs::Header::capacity_in))]
 fn read_numbers(l: &[u8]) -> Header
     ensures { result ≡ header_of l.now }
 {
@@ -122,42 +96,21 @@ fn is_right(l: &[u8], largest: u32, h: Header) -> bool
     requires { h ≡ header_of l.now }
     ensures { result ≡ header_right largest l.now }
 {
-    if l.len() < SHORTEST_LEDGER {
-        return false;
-    }
-    if read_at(l, FIRST_ROW_AT, U32) != HEADER_SIZE as u64 {
-        return false;
-    }
-    if h.next < 1 {
-        return false;
-    }
-    if IDENTIFIER_LIMIT < h.next {
-        return false;
-    }
-    if read_at(l, ROW_SIZE_AT, U32) != ROW_SIZE as u64 {
-        return false;
-    }
-    if h.capacity != capacity_for(l.len(), largest) {
-        return false;
-    }
-    if h.capacity < h.rows {
-        return false;
-    }
-    let caps = h.caps;
-    if !are_caps(caps) {
-        return false;
-    }
-    let totals = h.totals;
-    sum_of(totals) == h.rows
+    l.len() >= SHORTEST_LEDGER
+        && read_at(l, FIRST_ROW_AT, U32) == HEADER_SIZE as u64
+        && (1..=IDENTIFIER_LIMIT).contains(&h.next)
+        && read_at(l, ROW_SIZE_AT, U32) == ROW_SIZE as u64
+        && h.capacity == capacity_for(l.len(), largest)
+        && h.rows <= h.capacity
+        && are_caps(h.caps)
+        && sum_of(h.totals) == h.rows
 }
 
 // The numbers of the ledger's header where it is right.
-pub fn read_header(l: &[u8], largest: u32) -> HeaderCheck
+#[tactic(auto, unfolding(crate::specs::Header::checked_header))]
+pub fn read_header(l: &[u8], largest: u32) -> Option<Header>
     ensures { result ≡ checked_header largest l.now }
 {
     let h = read_numbers(l);
-    if is_right(l, largest, h) {
-        return HeaderCheck::Value(h);
-    }
-    HeaderCheck::Fault
+    is_right(l, largest, h).then_some(h)
 }

@@ -2,12 +2,11 @@
 ghost use Rattle.std.specs.Prelude.{◌≡◌, ◌+◌, ◌≤◌, length};
 ghost use Rattle.octets.specs.Part.{splice};
 ghost use Rattle.octets.specs.Field.{field};
-ghost use Rattle.message.specs.Values.{value};
-ghost use Rattle.terms.specs.Terms.{terms_size};
 ghost use Rattle.ledger.specs.Layout.{line_size};
 ghost use Rattle.ledger.specs.Document.{DocumentSizes};
 ghost use Rattle.ledger.specs.Line.{identifier_digits, previous_text, line};
 
+use crate::change::Line;
 use crate::layout::U8;
 use actions::{ACTION_TYPE, Action, is_new};
 use elements::{EVENT_TIMESTAMP, EVENT_TYPE};
@@ -48,45 +47,33 @@ fn previous_at(dst: &mut [u8], at: usize, a: Action, previous: u64)
 {
     if is_new(a) {
         fill_at(dst, at, IDENTIFIER_DIGITS, b' ');
-        return;
+    } else {
+        digits_at(dst, at, IDENTIFIER_DIGITS, previous);
     }
-    digits_at(dst, at, IDENTIFIER_DIGITS, previous);
 }
 
-// Writes the value of an element; spaces where it is missing.
-fn element_at(dst: &mut [u8], at: usize, n: usize, m: &[u8], code: u8)
-    requires { at + n ≤ length dst.old }
-    ensures { dst.new ≡ splice dst.old at (field n (value code m.now)) }
+// Writes the whole line, field by field; spaces where an element is missing.
+fn write_fields(dst: &mut [u8; LINE_SIZE], shown: Line)
+    ensures { dst.new
+        ≡ line shown.entry.action shown.entry.identifier shown.entry.previous shown.entry.message.now shown.entry.terms.now }
 {
-    field_at(dst, at, n, element(m, code));
-}
-
-// Writes the whole line, field by field.
-fn write_fields(dst: &mut [u8], a: Action, identifier: u64, previous: u64, m: &[u8], terms: &[u8])
-    requires { (length dst.old ≡ line_size) × (length terms.now ≡ terms_size) }
-    ensures { dst.new ≡ line a identifier previous m.now terms.now }
-{
-    digits_at(dst, DISSEMINATION_AT, IDENTIFIER_DIGITS, identifier);
-    previous_at(dst, PREVIOUS_AT, a, previous);
-    element_at(dst, ACTION_AT, ACTION_SIZE, m, ACTION_TYPE);
-    element_at(dst, EVENT_AT, EVENT_SIZE, m, EVENT_TYPE);
-    element_at(dst, TIME_AT, TIME_SIZE, m, EVENT_TIMESTAMP);
-    copy_at(dst, TERMS_START, terms);
-    fill_at(dst, NEWLINE_AT, U8, NEWLINE);
+    let m = shown.message;
+    digits_at(dst, DISSEMINATION_AT, IDENTIFIER_DIGITS, shown.identifier);
+    previous_at(dst, PREVIOUS_AT, shown.action, shown.previous);
+    field_at(dst, ACTION_AT, ACTION_SIZE, element(m, ACTION_TYPE));
+    field_at(dst, EVENT_AT, EVENT_SIZE, element(m, EVENT_TYPE));
+    field_at(dst, TIME_AT, TIME_SIZE, element(m, EVENT_TIMESTAMP));
+    copy_at(dst, TERMS_START, shown.terms);
+    dst[NEWLINE_AT] = NEWLINE;
 }
 
 // Writes the line into the first bytes of the tape; later bytes stay.
-pub fn write_line(
-    tape: &mut [u8],
-    a: Action,
-    identifier: u64,
-    previous: u64,
-    m: &[u8],
-    terms: &[u8],
-)
-    requires { (line_size ≤ length tape.old) × (length terms.now ≡ terms_size) }
-    ensures tape_after { tape.new ≡ splice tape.old 0 (line a identifier previous m.now terms.now) }
+pub fn write_line(tape: &mut [u8], shown: Line)
+    requires { line_size ≤ length tape.old }
+    ensures tape_after { tape.new
+        ≡ splice tape.old 0
+        (line shown.entry.action shown.entry.identifier shown.entry.previous shown.entry.message.now shown.entry.terms.now) }
     ensures document_sizes { DocumentSizes }
 {
-    write_fields(&mut tape[..LINE_SIZE], a, identifier, previous, m, terms);
+    write_fields(tape.first_chunk_mut().unwrap(), shown);
 }

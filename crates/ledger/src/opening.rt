@@ -13,8 +13,7 @@ use crate::layout::{
 use octets::{fill_at, write_at};
 
 // Writes the caps.
-fn write_caps(dst: &mut [u8], caps: Caps)
-    requires { length dst.old ≡ header_size }
+fn write_caps(dst: &mut [u8; HEADER_SIZE], caps: Caps)
     ensures { dst.new ≡ written caps_at (cap_fields caps) dst.old }
 {
     write_at(dst, CR_AT, U64, caps.cr);
@@ -25,16 +24,14 @@ fn write_caps(dst: &mut [u8], caps: Caps)
 }
 
 // Writes totals of 0.
-fn write_totals(dst: &mut [u8])
-    requires { length dst.old ≡ header_size }
+fn write_totals(dst: &mut [u8; HEADER_SIZE])
     ensures { dst.new ≡ written totals_at total_fields dst.old }
 {
     fill_at(dst, TOTALS_AT, TOTALS_SIZE, 0);
 }
 
 // Writes the whole header, field by field.
-fn write_numbers(dst: &mut [u8], caps: Caps, capacity: u64)
-    requires { length dst.old ≡ header_size }
+fn write_numbers(dst: &mut [u8; HEADER_SIZE], caps: Caps, capacity: u64)
     ensures { dst.new ≡ new_header caps capacity }
 {
     write_at(dst, ROWS_AT, U32, 0);
@@ -51,5 +48,5 @@ pub fn write_header(l: &mut [u8], caps: Caps, capacity: u64)
     requires { header_size ≤ length l.old }
     ensures { l.new ≡ splice l.old rows_at (new_header caps capacity) }
 {
-    write_numbers(&mut l[..HEADER_SIZE], caps, capacity);
+    write_numbers(l.first_chunk_mut().unwrap(), caps, capacity);
 }

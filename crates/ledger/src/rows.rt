@@ -1,145 +1,116 @@
 // What each action writes of a row and of the header.
-ghost use Rattle.std.specs.Prelude.{◌≡◌, ◌+◌, ◌^◌, ◌<◌, ◌≤◌, length};
-ghost use Rattle.octets.specs.Choice.{choose};
-ghost use Rattle.actions.specs.Actions.{is_new};
-ghost use Rattle.terms.specs.Terms.{terms_size};
-ghost use Rattle.ledger.specs.Layout.{u32, uti_size, row_size, row_start, header_size, identifier_limit};
-ghost use Rattle.ledger.specs.Rows.{new_row, with_status, with_identifier, with_terms, row_after, rows_after, with_rows, with_next, numbers_after, header_after};
+ghost use Rattle.std.specs.Prelude.{◌≡◌, ◌+◌, ◌^◌, ◌<◌, ◌≤◌, length, IsSome};
+ghost use Rattle.ledger.specs.Layout.{u32, row_start, header_size, identifier_limit};
+ghost use Rattle.ledger.specs.Rows.{new_row, with_status, with_identifier, with_terms, row_after, rows_after, numbers_after, header_after};
 ghost use Rattle.ledger.specs.Totals.{total_in};
-ghost use Rattle.actions.specs.Statuses.{unknown, live, ported};
+ghost use Rattle.actions.specs.Actions.{number_of, step_number};
 
+use crate::change::Change;
 use crate::layout::{
     HEADER_SIZE, IDENTIFIER_AT, LENGTH_AT, NEXT_AT, ROW_SIZE, ROWS_AT, STATUS_AT, TAIL_AT,
-    TAIL_SIZE, TERMS_AT, U8, U32, U64, UTI_AT, UTI_SIZE,
+    TAIL_SIZE, TERMS_AT, U32, U64, UTI_AT, UTI_SIZE,
 };
 use crate::totals::move_totals;
-use actions::{Action, is_full, is_new};
+use actions::{Action, Status, is_full, is_new};
 use octets::{copy_at, field_at, fill_at, write_at};
 
-// NEWT writes the whole row.
-fn write_row(row: &mut [u8], status: u8, uti: &[u8], identifier: u64, terms: &[u8])
-    requires { (length row.old ≡ row_size) × (length uti.now ≤ uti_size) × (length terms.now ≡ terms_size) }
-    ensures { row.new ≡ new_row status uti.now identifier terms.now }
+// Without a line only the status is written.
+#[tactic(auto, using(crate::proofs::RowLaws::byte_written), unfolding(crate::specs::Rows::with_status))]
+fn set_status(row: &mut [u8; ROW_SIZE], status: u8)
+    ensures { row.new ≡ with_status status row.old }
 {
-    fill_at(row, STATUS_AT, U8, status);
-    fill_at(row, LENGTH_AT, U8, uti.len() as u8);
-    field_at(row, UTI_AT, UTI_SIZE, uti);
-    write_at(row, IDENTIFIER_AT, U64, identifier);
-    copy_at(row, TERMS_AT, terms);
+    row[STATUS_AT] = status;
+}
+
+// NEWT writes the whole row.
+fn write_row(row: &mut [u8; ROW_SIZE], change: Change)
+    ensures { row.new
+        ≡ new_row change.entry.status change.entry.uti.now change.entry.identifier change.entry.terms.now }
+{
+    set_status(row, change.status);
+    row[LENGTH_AT] = change.uti.len() as u8;
+    field_at(row, UTI_AT, UTI_SIZE, change.uti);
+    write_at(row, IDENTIFIER_AT, U64, change.identifier);
+    copy_at(row, TERMS_AT, change.terms);
     fill_at(row, TAIL_AT, TAIL_SIZE, 0);
 }
 
-// Without a line only the status is written.
-fn set_status(row: &mut [u8], status: u8)
-    requires { length row.old ≡ row_size }
-    ensures { row.new ≡ with_status status row.old }
-{
-    fill_at(row, STATUS_AT, U8, status);
-}
-
 // TERM and EROR write status and identifier.
-fn mark_row(row: &mut [u8], status: u8, identifier: u64)
-    requires { length row.old ≡ row_size }
-    ensures { row.new ≡ with_identifier identifier (with_status status row.old) }
+#[tactic(auto, unfolding(crate::specs::Rows::with_identifier))]
+fn mark_row(row: &mut [u8; ROW_SIZE], change: Change)
+    ensures { row.new ≡ with_identifier change.entry.identifier (with_status change.entry.status row.old) }
 {
-    set_status(row, status);
-    write_at(row, IDENTIFIER_AT, U64, identifier);
+    set_status(row, change.status);
+    write_at(row, IDENTIFIER_AT, U64, change.identifier);
 }
 
 // MODI, CORR and REVI write status, identifier and terms.
-fn change_row(row: &mut [u8], status: u8, identifier: u64, terms: &[u8])
-    requires { (length row.old ≡ row_size) × (length terms.now ≡ terms_size) }
-    ensures { row.new ≡ with_terms terms.now (with_identifier identifier (with_status status row.old)) }
+#[tactic(auto, unfolding(crate::specs::Rows::with_terms))]
+fn change_row(row: &mut [u8; ROW_SIZE], change: Change)
+    ensures { row.new
+        ≡ with_terms change.entry.terms.now (with_identifier change.entry.identifier (with_status change.entry.status row.old)) }
 {
-    mark_row(row, status, identifier);
-    copy_at(row, TERMS_AT, terms);
+    mark_row(row, change);
+    copy_at(row, TERMS_AT, change.terms);
 }
 
 // What a message writes of the swap's row, by its action and whether a line is due.
-fn update_row(
-    row: &mut [u8],
-    a: Action,
-    due: bool,
-    status: u8,
-    uti: &[u8],
-    identifier: u64,
-    terms: &[u8],
-)
-    requires { (length row.old ≡ row_size) × (length uti.now ≤ uti_size) × (length terms.now ≡ terms_size) }
-    ensures { row.new ≡ row_after a due status uti.now identifier terms.now row.old }
+fn update_row(row: &mut [u8; ROW_SIZE], change: Change)
+    ensures { row.new
+        ≡ row_after change.entry.action change.entry.due change.entry.status change.entry.uti.now
+        change.entry.identifier change.entry.terms.now row.old }
 {
-    if !due {
-        set_status(row, status);
-    } else if is_new(a) {
-        write_row(row, status, uti, identifier, terms);
-    } else if is_full(a) {
-        change_row(row, status, identifier, terms);
+    if !change.due {
+        set_status(row, change.status);
+    } else if is_new(change.action) {
+        write_row(row, change);
+    } else if is_full(change.action) {
+        change_row(row, change);
     } else {
-        mark_row(row, status, identifier);
+        mark_row(row, change);
     }
 }
 
 // Updates the row at place k: its own part of the ledger is lent.
-pub fn store_row(
-    l: &mut [u8],
-    k: usize,
-    a: Action,
-    due: bool,
-    status: u8,
-    uti: &[u8],
-    identifier: u64,
-    terms: &[u8],
-)
-    requires { (row_start (k + 1) ≤ length l.old) × (length uti.now ≤ uti_size) × (length terms.now ≡ terms_size) }
-    ensures { l.new ≡ rows_after a due status uti.now identifier terms.now k l.old }
+pub fn store_row(l: &mut [u8], k: usize, change: Change)
+    requires { row_start (k + 1) ≤ length l.old }
+    ensures { l.new
+        ≡ rows_after change.entry.action change.entry.due change.entry.status change.entry.uti.now
+        change.entry.identifier change.entry.terms.now k l.old }
 {
-    let start = HEADER_SIZE + k * ROW_SIZE;
-    let end = start + ROW_SIZE;
-    update_row(&mut l[start..end], a, due, status, uti, identifier, terms);
+    let (_, rest) = l.split_at_mut(HEADER_SIZE + k * ROW_SIZE);
+    update_row(rest.first_chunk_mut().unwrap(), change);
 }
 
-// A new swap raises rows in use by one.
-fn raise_rows(l: &mut [u8], a: Action, rows: u64)
-    requires { (header_size ≤ length l.old) × (rows < 256 ^ u32) }
-    ensures { l.new ≡ choose (is_new a) (with_rows (rows + 1) l.old) l.old }
+// A new swap raises rows in use by one, and each line the next identifier.
+// Stays: due beside next, no Option: as in Change (change.rt).
+#[tactic(auto, unfolding(crate::specs::Rows::numbers_after, crate::specs::Rows::with_rows, crate::specs::Rows::with_next))]
+fn raise_numbers(l: &mut [u8], a: Action, due: bool, rows: u64, next: u64)
+    requires { (header_size ≤ length l.old) × (rows < 256 ^ u32) × (next ≤ identifier_limit) }
+    ensures { l.new ≡ numbers_after a due rows next l.old }
 {
     if is_new(a) {
         write_at(l, ROWS_AT, U32, rows + 1);
     }
-}
-
-// Each line raises the next identifier by one.
-fn raise_next(l: &mut [u8], due: bool, next: u64)
-    requires { (header_size ≤ length l.old) × (next ≤ identifier_limit) }
-    ensures { l.new ≡ choose due (with_next (next + 1) l.old) l.old }
-{
     if due {
         write_at(l, NEXT_AT, U64, next + 1);
     }
 }
 
-// Rows in use and the next identifier.
-fn raise_numbers(l: &mut [u8], a: Action, due: bool, rows: u64, next: u64)
-    requires { (header_size ≤ length l.old) × (rows < 256 ^ u32) × (next ≤ identifier_limit) }
-    ensures { l.new ≡ numbers_after a due rows next l.old }
-{
-    raise_rows(l, a, rows);
-    raise_next(l, due, next);
-}
-
 // What a message writes of the header: these numbers, and the totals of its swap's status before and after.
+// Stays: what it calls takes no `&mut [u8; HEADER_SIZE]`: `header_after` is of the whole ledger, and each write would need a law that it leaves the rest.
 pub fn update_header(
     l: &mut [u8],
     a: Action,
     due: bool,
-    before: u8,
-    after: u8,
+    before: Option<Status>,
+    after: Status,
     rows: u64,
     next: u64,
 )
-    requires { (header_size ≤ length l.old) × (rows < 256 ^ u32) × (next ≤ identifier_limit) × (before ≤ ported) × (live ≤ after) × (after ≤ ported)
-        × ((before ≡ unknown → ⊥) → 0 < total_in before l.old) }
-    ensures { l.new ≡ header_after a due before after rows next l.old }
+    requires { (header_size ≤ length l.old) × (rows < 256 ^ u32) × (next ≤ identifier_limit)
+        × (IsSome before → 0 < total_in (step_number before) l.old) }
+    ensures { l.new ≡ header_after a due (step_number before) (number_of after) rows next l.old }
 {
     raise_numbers(l, a, due, rows, next);
     move_totals(l, before, after);

@@ -10,15 +10,23 @@ use native.Mathlib.Numerals.{add-one}
 use lib.Dec.{ltb, leb, eqb}
 use lib.ListN.{length, get_or, take, drop, length-take, length-drop, take-append-drop}
 use lib.Seq.{take_all, drop-drop}
-use borrow.Author.Tests.{ltb-true, ltb-false, lt-ltb, le-ltb, eqb-true, eq-eqb, ne_eqb}
+use borrow.Author.Tests.{ltb-true, ltb-false, lt-ltb, le-ltb, le-leb, eqb-true, eq-eqb, ne_eqb}
 use Rattle.octets.specs.Bytes.{Bytes}
 use Rattle.octets.specs.Choice.{choose, both}
 use Rattle.octets.specs.Search.{first_from, all}
 use Rattle.octets.proofs.ChoiceLaws.{both_first, both_second, both_last, both_none}
-use Rattle.octets.proofs.SearchLaws.{all_at, first_le, first_passes}
+use Rattle.octets.proofs.SearchLaws.{all_at, all_more, all_stop, all_end, first_le, first_passes, first_more, first_stop, first_end}
 use Rattle.message.specs.Layout.{count_size, entry_size, count, code_at, offset_at, header_size, entry_right, layout_right}
 use Rattle.message.specs.Values.{entries, entry_from, end_of, value_at, value, is_there, values_from}
 use Rattle.message.specs.Laws.{LayoutLaws}
+
+-- where there are entries, the layout is what they tell
+pub layout_entries : (longest most : ℕ) (known : List Bool) (m : Bytes) → count_size ≤ length m → length m ≤ longest → count m ≤ most → 0 < count m
+    → layout_right longest most known m ≡ all (entry_right known m) (count m)
+unfolding layout_right
+layout_entries longest most known m long short few some =
+    let z : count m ≡ 0 → ⊥ = omega arith in
+    rw (le-leb _ _ long, le-leb _ _ short, le-leb _ _ few, ne_eqb _ _ z)
 
 -- a first entry without room behind the header is wrong
 pub header_cut : (known : List Bool) (m : Bytes) → length m ≤ header_size m → entry_right known m 0 ≡ false
@@ -31,6 +39,32 @@ header_cut known m h = both_none (get_or known (code_at m 0) false) _ (go (ltb (
         let other : offset_at m 0 ≡ header_size m → ⊥ = omega arith in
         ne_eqb _ _ other
     go false e = refl
+
+-- and so is the layout then
+pub layout_cut : (longest most : ℕ) (known : List Bool) (m : Bytes) → count_size ≤ length m → length m ≤ longest → count m ≤ most → 0 < count m
+    → length m ≤ header_size m → layout_right longest most known m ≡ false
+layout_cut longest most known m long short few some cut =
+    layout_entries longest most known m long short few some
+    ∙ rw sub-zero at (all_stop (entry_right known m) 0 (count m) some (header_cut known m cut))
+
+-- what the loop over the entries needs
+pub ruleset layout_steps = (layout_entries, layout_cut, all_more, all_stop, all_end)
+
+-- ---- the search for an entry
+
+pub entry_stop : (m : Bytes) (code k : ℕ) → k < entries m → code_at m k ≡ code → entry_from m code k ≡ k
+unfolding entry_from
+entry_stop m code k h e = first_stop (λ j. eqb (code_at m j) code) k (entries m) h (eq-eqb _ _ e)
+
+pub entry_more : (m : Bytes) (code k : ℕ) → k < entries m → (code_at m k ≡ code → ⊥) → entry_from m code k ≡ entry_from m code (k + 1)
+unfolding entry_from
+entry_more m code k h e = first_more (λ j. eqb (code_at m j) code) k (entries m) h (ne_eqb _ _ e)
+
+pub entry_end : (m : Bytes) (code k : ℕ) → entries m ≤ k → entry_from m code k ≡ k
+unfolding entry_from
+entry_end m code k h = first_end (λ j. eqb (code_at m j) code) k (entries m) h
+
+pub ruleset entry_steps = (entry_stop, entry_more, entry_end)
 
 module _ (longest most : ℕ) (known : List Bool) (m : Bytes) (right : layout_right longest most known m ≡ true) where
   -- every entry is right
@@ -180,7 +214,7 @@ module _ (longest most : ℕ) (known : List Bool) (m : Bytes) (right : layout_ri
       rw next (omega arith)
 
   -- an entry is found by its code
-  entry_found : (k : ℕ) → k < count m → entry_from m (code_at m k) 0 ≡ k
+  pub entry_found : (k : ℕ) → k < count m → entry_from m (code_at m k) 0 ≡ k
   unfolding entry_from
   entry_found k h =
       let f : ℕ → Bool = λ j. eqb (code_at m j) (code_at m k) in

@@ -1,8 +1,11 @@
 -- Laws of a reader that goes along the codes of a message: where it starts, what it finds, and where it goes on. Assumes nothing.
 use Prim.Native.Nat.{ℕ, zero, suc, ◌+◌, ◌-◌, ◌<◌, ◌≤◌}
-use mathlib.Core.Path.{◌≡◌, refl, sym, ap, ◌∙◌}
+use mathlib.Core.Path.{◌≡◌, refl, sym, ap, ◌∙◌, subst}
 use mathlib.Core.Bool.{Bool, true, false, false≢true}
 use mathlib.Core.List.{[], ◌∷◌}
+use Rattle.std.proofs.Math.Logic.{∥∥₁_elim}
+use Rattle.std.proofs.Props.{props}
+use Rattle.std.specs.Coded.{×_prop, le_prop}
 use native.Mathlib.Omega.{arith}
 use native.Mathlib.Nat.{sub-zero}
 use lib.Dec.{ltb, eqb}
@@ -12,9 +15,9 @@ use Rattle.octets.specs.Bytes.{Bytes}
 use Rattle.octets.specs.Search.{first_from}
 use Rattle.octets.proofs.SearchLaws.{first_passes}
 use Rattle.message.specs.Layout.{count, code_at, offset_at}
-use Rattle.message.specs.Values.{entries, entry_from, end_of, value_at, value, is_there}
-use Rattle.message.specs.Reading.{Laid, Reached, next_place, NoneAbove}
-use Rattle.message.proofs.LayoutLaws.{entries_all, code_known, code_apart, value_runs, value_filled, missing, value_found}
+use Rattle.message.specs.Values.{entries, entry_from, end_of, value_at, offset_of, value, is_there}
+use Rattle.message.specs.Reading.{Laid, Reached, NoneAbove, next_place}
+use Rattle.message.proofs.LayoutLaws.{entries_all, code_known, code_apart, value_runs, value_filled, missing, entry_found, value_found}
 
 entries_most : (m : Bytes) → entries m ≤ count m
 unfolding entries
@@ -46,24 +49,41 @@ not_there m code e = go (value code m) e
     go [] h = refl
     go (x ∷ xs) h = absurd (omega (arith, ltb-false 0 (length (x ∷ xs)) h))
 
-module _ (m : Bytes) (laid : Laid m) where
+module _ (m : Bytes) (laid : ∥ Laid m ∥₁) where
   pub laid_entries : entries m ≡ count m
-  laid_entries = entries_all laid.longest laid.most laid.known m laid.right
+  laid_entries = ∥∥₁_elim laid (search props) (λ l. entries_all l.longest l.most l.known m l.right)
 
   pub laid_runs : (k : ℕ) → k < entries m → (offset_at m k < end_of m k) × (end_of m k ≤ length m)
-  laid_runs k h = value_runs laid.longest laid.most laid.known m laid.right k (omega (arith, laid_entries))
+  laid_runs k h = ∥∥₁_elim laid (×_prop le_prop le_prop) (λ l. value_runs l.longest l.most l.known m l.right k (omega (arith, laid_entries)))
+
+  filled : (k : ℕ) → k < count m → 0 < length (value_at m k)
+  filled k h = ∥∥₁_elim laid (search props) (λ l. value_filled l.longest l.most l.known m l.right k h)
+
+  entry_value : (k : ℕ) → k < count m → value (code_at m k) m ≡ value_at m k
+  entry_value k h = ∥∥₁_elim laid (search props) (λ l. value_found l.longest l.most l.known m l.right k h)
+
+  entry_place : (k : ℕ) → k < count m → entry_from m (code_at m k) 0 ≡ k
+  entry_place k h = ∥∥₁_elim laid (search props) (λ l. entry_found l.longest l.most l.known m l.right k h)
+
+  no_entry : (code : ℕ) → value code m ≡ [] → (k : ℕ) → k < count m → code_at m k ≡ code → ⊥
+  no_entry code v k h e = ∥∥₁_elim laid (λ x y. absurd x) (λ l. missing l.longest l.most l.known m l.right code v k h e)
 
   -- codes are above 0
   positive : (k : ℕ) → k < count m → 0 < code_at m k
-  positive k h = go (code_at m k) refl
+  positive k h = ∥∥₁_elim laid (search props) (λ l. by l (code_at m k) refl)
     where
-      go : (c : ℕ) → code_at m k ≡ c → 0 < c
-      go zero e = absurd (false≢true (sym laid.none ∙ ap (λ (c : ℕ). get_or laid.known c false) (sym e) ∙ code_known laid.longest laid.most laid.known m laid.right k h))
-      go (suc c) e = omega arith
+      by : Laid m → (c : ℕ) → code_at m k ≡ c → 0 < c
+      by l zero e = absurd (false≢true (sym l.none ∙ ap (λ (c : ℕ). get_or l.known c false) (sym e) ∙ code_known l.longest l.most l.known m l.right k h))
+      by l (suc c) e = omega arith
 
   -- and rise
   apart : (i j : ℕ) → i < j → j < count m → code_at m i < code_at m j
-  apart i j h l = code_apart laid.longest laid.most laid.known m laid.right (j - (i + 1)) i j (omega arith) l
+  apart i j h l = ∥∥₁_elim laid (search props) (λ k. code_apart k.longest k.most k.known m k.right (j - (i + 1)) i j (omega arith) l)
+
+  -- without entries no element is there, and with some none above the last one's code
+  pub none_there : count m ≡ 0 → (code : ℕ) → is_there code m ≡ false
+  unfolding is_there
+  none_there n code = rw (absent m code (λ k l g. omega arith))
 
   -- no element above the last entry's code is there
   pub none_above : (last : ℕ) → ((k : ℕ) → k + 1 ≡ count m → code_at m k ≤ last) → NoneAbove m last
@@ -76,6 +96,11 @@ module _ (m : Bytes) (laid : Laid m) where
           let end : count m - 1 + 1 ≡ count m = omega arith in
           omega (arith, e (count m - 1) end, apart k (count m - 1) (omega (arith, eqb-false (k + 1) (count m) q)) (omega arith))
 
+  pub above_last : 0 < count m → (code : ℕ) → code_at m (count m - 1) < code → is_there code m ≡ false
+  above_last n =
+      none_above (code_at m (count m - 1))
+      (λ k e. let at : k ≡ count m - 1 = omega (arith, e) in omega (arith, ap (code_at m) at))
+
   -- before the first entry the reader has come to code 1
   pub reached_start : Reached m 1 0
   reached_start = record { inside = omega arith; passed = λ k h. absurd (omega arith); left = λ k h l. positive k l }
@@ -83,7 +108,7 @@ module _ (m : Bytes) (laid : Laid m) where
   module _ (code at : ℕ) (r : Reached m code at) where
     -- the next entry has the code of an element that is there
     found_here : at < count m → code_at m at ≡ code → value code m ≡ value_at m at
-    found_here h e = ap (λ (c : ℕ). value c m) (sym e) ∙ value_found laid.longest laid.most laid.known m laid.right at h
+    found_here h e = ap (λ (c : ℕ). value c m) (sym e) ∙ entry_value at h
 
     -- and another one where it is missing
     missing_here : (at < count m → code_at m at ≡ code → ⊥) → value code m ≡ []
@@ -107,11 +132,14 @@ module _ (m : Bytes) (laid : Laid m) where
     -- so the next entry tells
     there_here : at < count m → code_at m at ≡ code → is_there code m ≡ true
     unfolding is_there
-    there_here h e = rw (found_here h e) (lt-ltb _ _ (value_filled laid.longest laid.most laid.known m laid.right at h))
+    there_here h e = rw (found_here h e) (lt-ltb _ _ (filled at h))
 
-    pub not_here : (at < count m → code_at m at ≡ code → ⊥) → is_there code m ≡ false
+    not_here : (at < count m → code_at m at ≡ code → ⊥) → is_there code m ≡ false
     unfolding is_there
     not_here other = rw (missing_here other)
+
+    pub not_past : count m ≤ at → is_there code m ≡ false
+    not_past h = not_here (λ l. absurd (omega arith))
 
     here_there : is_there code m ≡ true → (at < count m) × (code_at m at ≡ code)
     here_there e = go (ltb at (count m)) refl (eqb (code_at m at) code) refl
@@ -119,13 +147,14 @@ module _ (m : Bytes) (laid : Laid m) where
         go : (t : Bool) → ltb at (count m) ≡ t → (u : Bool) → eqb (code_at m at) code ≡ u → (at < count m) × (code_at m at ≡ code)
         go true p true q = (ltb-true _ _ p, eqb-true _ _ q)
         go true p false q = absurd (false≢true (sym (not_here (λ h. eqb-false _ _ q)) ∙ e))
-        go false p u q = absurd (false≢true (sym (not_here (λ h. absurd (omega (arith, ltb-false at (count m) p)))) ∙ e))
-
-    pub there_inside : is_there code m ≡ true → at < entries m
-    there_inside e = omega (arith, (here_there e).0, laid_entries)
+        go false p u q = absurd (false≢true (sym (not_past (ltb-false at (count m) p)) ∙ e))
 
     pub found_there : is_there code m ≡ true → value code m ≡ value_at m at
     found_there e = found_here (here_there e).0 (here_there e).1
+
+    pub offset_there : is_there code m ≡ true → offset_of code m ≡ offset_at m at
+    unfolding offset_of
+    offset_there e = ap (λ (c : ℕ). offset_at m (entry_from m c 0)) (sym (here_there e).1) ∙ ap (offset_at m) (entry_place at (here_there e).0)
 
     pub there_test : at < count m → eqb (code_at m at) code ≡ is_there code m
     there_test h = go (eqb (code_at m at) code) refl
@@ -157,5 +186,11 @@ module _ (m : Bytes) (laid : Laid m) where
             record {
               inside = r.inside;
               passed = λ k l. omega (arith, r.passed k l);
-              left = λ k g l. omega (arith, r.left k g l, missing laid.longest laid.most laid.known m laid.right code (not_there m code e) k l);
+              left = λ k g l. omega (arith, r.left k g l, no_entry code (not_there m code e) k l);
             }
+
+    pub reached_over : is_there code m ≡ true → Reached m (code + 1) (at + 1)
+    reached_over e = subst (λ (t : Bool). Reached m (code + 1) (next_place at t)) e reached_next
+
+    pub reached_past : is_there code m ≡ false → Reached m (code + 1) at
+    reached_past e = subst (λ (t : Bool). Reached m (code + 1) (next_place at t)) e reached_next

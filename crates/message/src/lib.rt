@@ -2,6 +2,7 @@
 #![tactic(auto)]
 
 mod entries;
+mod laid;
 mod layout;
 
 ghost use Rattle.std.specs.Prelude.{◌≡◌};
@@ -9,13 +10,14 @@ ghost use Rattle.octets.specs.Part.{PartOf};
 ghost use Rattle.message.specs.Layout.{offset_at};
 ghost use Rattle.message.specs.Values.{entry_from, value_at, offset_of, value};
 
-pub use entries::{entries_of, is_here, last_code, next_place, value_here};
+pub use entries::entries_of;
 use entries::{entry_of, value_at};
+pub use laid::{Cursor, LaidMessage};
 pub use layout::layout_right;
 
 // The reader of a message: the lent bytes, and how far it has come, an entry of the header. Each function over it takes it apart and
 // calls one on the bytes and a number.
-#[derive(Clone, Copy)]
+#[derive(Clone, Copy, Debug, PartialEq, Eq)]
 pub struct Reader<'a> {
     pub src: &'a [u8],
     pub at: usize,
@@ -33,8 +35,10 @@ impl<'a> Reader<'a> {
     pub fn seek(self, code: u8) -> Reader<'a>
         ensures { (result.src ≡ self.entry.src) × (result.at ≡ entry_from self.entry.src.now code self.entry.at) }
     {
-        let at = entry_of(self.src, code, self.at);
-        Reader { src: self.src, at }
+        Reader {
+            at: entry_of(self.src, code, self.at),
+            ..self
+        }
     }
 
     // The value of the entry that the reader has come to: that part of the message itself.
@@ -47,6 +51,7 @@ impl<'a> Reader<'a> {
 }
 
 // The value of the element with a code: that part of the message itself, empty where the element is missing.
+#[tactic(auto, unfolding(crate::specs::Values::value, crate::specs::Values::offset_of))]
 pub fn element<'a>(m: &'a [u8], code: u8) -> &'a [u8]
     ensures { (result.now ≡ value code m.now) × PartOf m.entry (offset_of code m.now) result }
 {

@@ -21,54 +21,50 @@ const SMALLEST_CAP: u64 = 1_000;
 pub const LARGEST_CAP: u64 = 1_000_000_000_000_000;
 
 // The number of a digit; what is no digit counts 0.
+#[tactic(auto, unfolding(crate::specs::Amount::digit))]
 fn digit_of(b: u8) -> u64
     ensures { (result ≡ digit b) × (result ≤ 9) }
 {
-    if b < b'0' {
-        return 0;
+    match b {
+        b'0'..=b'9' => u64::from(b - b'0'),
+        _ => 0,
     }
-    if b'9' < b {
-        return 0;
-    }
-    (b - b'0') as u64
 }
 
 // Whole units stop growing just above the largest cap.
 fn saturated(n: u64) -> u64
     ensures { result ≡ min n (largest_cap + 1) }
 {
-    if LARGEST_CAP < n { LARGEST_CAP + 1 } else { n }
+    n.min(LARGEST_CAP + 1)
 }
 
 // The whole units of a value.
+#[tactic(auto, unfolding(crate::specs::Amount::spelled), using(crate::proofs::AmountLaws::spelled_more))]
 fn whole_units(v: &[u8]) -> u64
     ensures { result ≡ min (spelled 0 (whole_of v.now)) (largest_cap + 1) }
 {
-    let w = whole_of(v);
     let mut n: u64 = 0;
-    let mut k: usize = 0;
-    while k < w.len() {
-        n = saturated(n * 10 + digit_of(w[k]));
-        k += 1;
+    for b in whole_of(v) {
+        n = saturated(n * 10 + digit_of(*b));
     }
     n
 }
 
 // What stands after the point, in units of 10^-5.
+#[tactic(auto, unfolding(crate::specs::Amount::spelled, crate::specs::Amount::fraction), using(crate::proofs::AmountLaws::spelled_more))]
 fn fraction_of(v: &[u8]) -> u64
     ensures { (result ≡ fraction v.now) × (result < unit) }
 {
     let d = decimals_of(v);
     let mut n: u64 = 0;
-    let mut k: usize = 0;
-    while k < NOTIONAL_DECIMALS {
+    for k in 0..NOTIONAL_DECIMALS {
         n = n * 10 + digit_of(byte_at(d, k));
-        k += 1;
     }
     n
 }
 
 // The rounding step of the band that an amount of so many whole units lies in.
+#[tactic(auto, unfolding(crate::specs::Rounding::step, crate::specs::Rounding::step_in, crate::specs::Rounding::bands))]
 fn step_of(whole: u64) -> u64
     ensures { ((f : ℕ) → f < unit → result ≡ step (whole * unit + f)) × (least_shown ≤ result) × (result ≤ last_step) }
 {
@@ -85,66 +81,82 @@ fn step_of(whole: u64) -> u64
     }
 }
 
-// The rounded amount of whole units and a fraction, counted in halves of a unit.
-fn rounded_of(whole: u64, fraction: u64) -> u64
-    requires { (whole ≤ largest_cap) × (fraction < unit) }
-    ensures { result ≡ rounded (whole * unit + fraction) }
-{
-    let s = step_of(whole);
-    let n = (2 * whole + fraction / HALF_UNIT + s) / (2 * s) * s;
-    if n < LEAST_SHOWN { LEAST_SHOWN } else { n }
+// An exact amount: whole units, which stop growing just above the largest cap, and units of 10^-5. Its derived order is that of the amounts.
+#[derive(Clone, Copy, PartialEq, Eq, PartialOrd, Ord)]
+struct Exact {
+    whole: u64,
+    fraction: u64,
+    ghost whole_bound: { whole ≤ largest_cap + 1 },
+    ghost below_unit: { fraction < unit },
 }
 
-// Whether the exact amount is above the cap.
-fn is_over(whole: u64, fraction: u64, cap: u64) -> bool
-    requires { fraction < unit }
-    ensures { result ≡ over cap (whole * unit + fraction) }
-{
-    if whole < cap {
-        return false;
+impl Exact {
+    fn of(v: &[u8]) -> Exact
+        ensures whole { result.whole ≡ min (spelled 0 (whole_of v.now)) (largest_cap + 1) }
+        ensures fraction { result.fraction ≡ fraction v.now }
+    {
+        Exact {
+            whole: whole_units(v),
+            fraction: fraction_of(v),
+        }
     }
-    if cap < whole {
-        return true;
+
+    fn of_cap(cap: u64) -> Exact
+        requires { cap ≤ largest_cap }
+        ensures { (result.whole ≡ cap) × (result.fraction ≡ 0) }
+    {
+        Exact {
+            whole: cap,
+            fraction: 0,
+        }
     }
-    0 < fraction
+
+    // The rounded amount, counted in halves of a unit.
+    #[tactic(auto, unfolding(crate::specs::Rounding::rounded), using(crate::proofs::RoundingLaws::nearest_by_halves))]
+    fn rounded(self) -> u64
+        ensures { result ≡ rounded (self.whole * unit + self.fraction) }
+    {
+        let s = step_of(self.whole);
+        let n = (2 * self.whole + self.fraction / HALF_UNIT + s) / (2 * s) * s;
+        n.max(LEAST_SHOWN)
+    }
+
+    // Whether the exact amount is above the cap.
+    #[tactic(auto, unfolding(crate::specs::Masking::over))]
+    fn is_over(self, cap: u64) -> bool
+        requires { cap ≤ largest_cap }
+        ensures { result ≡ over cap (self.whole * unit + self.fraction) }
+    {
+        Exact::of_cap(cap) < self
+    }
 }
 
 // What a tape line shows of a notional: whole units, and whether a plus sign follows.
-#[derive(Clone, Copy)]
+// Stays: no Option: the plus is a mark beside the units, which are always there.
+#[derive(Clone, Copy, Debug, PartialEq, Eq)]
 pub struct Masked {
     pub units: u64,
     pub plus: bool,
 }
 
 // The masked notional of a value under a cap.
+// Stays: a cap is a number with its bound asked for: the ledger has it as a number, and functions above hand it on as it is.
+#[tactic(auto, unfolding(crate::specs::Amount::amount, crate::specs::Masking::over, crate::specs::Masking::shown), using(crate::proofs::MaskingLaws::masking_laws))]
 pub fn mask(v: &[u8], cap: u64) -> Masked
     requires { cap ≤ largest_cap }
     ensures units_value { (result.units ≡ shown cap (amount v.now)) × (result.plus ≡ over cap (amount v.now)) }
     ensures masking_laws { MaskingLaws }
 {
-    let whole = whole_units(v);
-    let fraction = fraction_of(v);
-    if is_over(whole, fraction, cap) {
-        return Masked {
-            units: cap,
-            plus: true,
-        };
-    }
-    Masked {
-        units: rounded_of(whole, fraction),
-        plus: false,
-    }
+    let exact = Exact::of(v);
+    let plus = exact.is_over(cap);
+    let units = if plus { cap } else { exact.rounded() };
+    Masked { units, plus }
 }
 
 // Whether a number is a cap: in its range, and its own rounded amount.
+#[tactic(auto, unfolding(crate::specs::Masking::is_cap))]
 pub fn is_cap(cap: u64) -> bool
     ensures { result ≡ is_cap cap }
 {
-    if cap < SMALLEST_CAP {
-        return false;
-    }
-    if LARGEST_CAP < cap {
-        return false;
-    }
-    rounded_of(cap, 0) == cap
+    (SMALLEST_CAP..=LARGEST_CAP).contains(&cap) && Exact::of_cap(cap).rounded() == cap
 }

@@ -1,11 +1,17 @@
 -- Laws of specs/Numbers.antt: the size of a number that its form admits. Assumes nothing.
-use Prim.Native.Nat.{ℕ, ◌+◌, ◌≤◌}
-use mathlib.Core.Bool.{Bool, true, false}
-use mathlib.Core.Path.{◌≡◌, refl}
+use Prim.Native.Nat.{ℕ, zero, suc, ◌+◌, ◌<◌, ◌≤◌}
+use Prim.Native.Char.{code}
+use mathlib.Core.Bool.{Bool, true, false, not, cond}
+use mathlib.Core.List.{[], ◌∷◌}
+use mathlib.Core.Path.{◌≡◌, refl, sym, ap, ◌∙◌}
+use Rattle.std.specs.Prelude.{Option, Some, None, MatchOption}
+use Rattle.std.specs.List.{position_or_len}
+use Rattle.octets.specs.Search.{first_from}
 use native.Mathlib.Omega.{arith}
-use borrow.Author.Tests.{ltb-false, leb-true}
-use lib.Dec.{leb}
-use lib.ListN.{length, length-drop}
+use borrow.Author.Tests.{ltb-true, ltb-false, leb-true, lt-ltb, le-ltb}
+use lib.Dec.{leb, ltb, eqb}
+use lib.ListN.{length, get_or, length-drop}
+use lib.Seq.{take_all}
 use Rattle.octets.specs.Bytes.{Bytes}
 use Rattle.octets.specs.Choice.{choose, both}
 use Rattle.octets.proofs.ChoiceLaws.{both_first, both_second}
@@ -13,6 +19,41 @@ use Rattle.values.specs.Run.{run_of}
 use Rattle.values.proofs.RunLaws.{run_least, run_most}
 use Rattle.values.specs.declared.run.Class.TheVariants.{Digit}
 use Rattle.numbers.specs.Numbers.{point_in, has_point, whole_of, decimals_of, is_number}
+
+-- the first place of a range one on, as that of the test one on
+first_shift : (f : ℕ → Bool) (k d : ℕ) → first_from f (suc k) d ≡ suc (first_from (λ i. f (suc i)) k d)
+unfolding first_from
+first_shift f k zero = refl
+first_shift f k (suc d) = by (f (suc k)) (first_shift f (suc k) d)
+  where
+    by : (t : Bool) → first_from f (suc (suc k)) d ≡ suc (first_from (λ i. f (suc i)) (suc k) d) → choose t (suc k) (first_from f (suc (suc k)) d) ≡ suc (choose t k (first_from (λ i. f (suc i)) (suc k) d))
+    by true e = refl
+    by false e = e
+
+-- the first place whose byte passes, as the first byte that passes
+first_bytes : (f : ℕ → Bool) (v : Bytes) → first_from (λ k. f (get_or v k 0)) 0 (length v) ≡ position_or_len f v
+unfolding first_from
+first_bytes f [] = refl
+first_bytes f (b ∷ v) = by (f b) (first_shift (λ k. f (get_or (b ∷ v) k 0)) 0 (length v) ∙ ap suc (first_bytes f v))
+  where
+    by : (t : Bool) → first_from (λ k. f (get_or (b ∷ v) k 0)) 1 (length v) ≡ suc (position_or_len f v) → choose t 0 (first_from (λ k. f (get_or (b ∷ v) k 0)) 1 (length v)) ≡ cond (not t) (1 + position_or_len f v) 0
+    by true e = refl
+    by false e = e ∙ omega arith
+
+abbrev pub is_point : ℕ → Bool
+is_point b = eqb b (code ".")
+
+-- what a search for the first point tells
+pub point_found : (v : Bytes) (r : Option ℕ) → r ≡ cond (ltb (position_or_len is_point v) (length v)) (Some (position_or_len is_point v)) None → MatchOption r (length v ≤ point_in v) (λ p. (p ≡ point_in v) × (p < length v))
+unfolding point_in
+point_found v r e = rw e (by (ltb (position_or_len is_point v) (length v)) refl)
+  where
+    same : point_in v ≡ position_or_len is_point v
+    same = first_bytes is_point v
+
+    by : (t : Bool) → ltb (position_or_len is_point v) (length v) ≡ t → MatchOption (cond t (Some (position_or_len is_point v)) None) (length v ≤ point_in v) (λ p. (p ≡ point_in v) × (p < length v))
+    by true t = (sym same, ltb-true _ _ t)
+    by false t = omega (arith, same, ltb-false _ _ t)
 
 module _ (a b : ℕ) (v : Bytes) (e : is_number a b v ≡ true) where
   whole_run : run_of 1 a Digit (whole_of v) ≡ true
@@ -34,3 +75,18 @@ module _ (a b : ℕ) (v : Bytes) (e : is_number a b v ≡ true) where
       go : (t : Bool) → has_point v ≡ t → choose t (both (run_of 1 b Digit (decimals_of v)) (leb (length (whole_of v) + length (decimals_of v)) a)) true ≡ true → length (whole_of v) + length (decimals_of v) ≤ a
       go true p f = leb-true _ _ (both_second (run_of 1 b Digit (decimals_of v)) _ f)
       go false p f = omega (arith, whole_most, ltb-false (point_in v) (length v) p, length-drop (point_in v + 1) v)
+
+-- a number with no point, and one with a point
+pub whole_form : (a b : ℕ) (v : Bytes) → length v ≤ point_in v → is_number a b v ≡ run_of 1 a Digit v
+unfolding is_number whole_of
+whole_form a b v h = rw (take_all (point_in v) v h, le-ltb (point_in v) (length v) h) (by (run_of 1 a Digit v))
+  where
+    by : (t : Bool) → both t true ≡ t
+    by true = refl
+    by false = refl
+
+pub point_form : (a b : ℕ) (v : Bytes) → point_in v < length v → is_number a b v ≡ both (run_of 1 a Digit (whole_of v)) (both (run_of 1 b Digit (decimals_of v)) (leb (length (whole_of v) + length (decimals_of v)) a))
+unfolding is_number
+point_form a b v h = rw (lt-ltb (point_in v) (length v) h)
+
+pub ruleset forms = (whole_form, point_form)

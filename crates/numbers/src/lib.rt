@@ -1,7 +1,7 @@
 // Decimal numbers (specification, clauses 4.7 to 4.9): the forms of codes 17, 20 and 26.
 #![tactic(auto)]
 
-ghost use Rattle.std.specs.Prelude.{◌≡◌, ◌≤◌, length};
+ghost use Rattle.std.specs.Prelude.{◌≡◌, ◌<◌, ◌≤◌, length, MatchOption};
 ghost use Rattle.numbers.specs.Numbers.{point_in, whole_of, decimals_of, is_number, unsigned_of, is_price, is_notional};
 
 use values::{Class, run_of};
@@ -14,71 +14,71 @@ const NOTIONAL_DIGITS: usize = 25;
 
 pub const NOTIONAL_DECIMALS: usize = 5;
 
-// The place of the first point, or the length where there is none.
-fn point_in(v: &[u8]) -> usize
-    ensures { (result ≡ point_in v.now) × (result ≤ length v.now) }
+// The place of the first point.
+fn point_in(v: &[u8]) -> Option<usize>
+    ensures { MatchOption result (length v.now ≤ point_in v.now) (λ p. (p ≡ point_in v.now) × (p < length v.now)) }
 {
-    let mut k: usize = 0;
-    while k < v.len() {
-        if v[k] == b'.' {
-            return k;
-        }
-        k += 1;
-    }
-    k
+    v.iter().position(|b| *b == b'.')
+}
+
+// What stands before the first point, and what stands after it.
+#[tactic(auto, unfolding(crate::specs::Numbers::whole_of, crate::specs::Numbers::decimals_of))]
+fn parts_of<'a>(v: &'a [u8]) -> Option<(&'a [u8], &'a [u8])>
+    ensures { MatchOption result (length v.now ≤ point_in v.now) (λ p. (point_in v.now < length v.now) × (p.0.now ≡ whole_of v.now) × (p.1.now ≡ decimals_of v.now)) }
+{
+    let p = point_in(v)?;
+    Some((&v[..p], &v[p + 1..]))
 }
 
 // What stands before the point.
+#[tactic(auto, unfolding(crate::specs::Numbers::whole_of))]
 pub fn whole_of<'a>(v: &'a [u8]) -> &'a [u8]
     ensures { result.now ≡ whole_of v.now }
 {
-    let p = point_in(v);
-    &v[..p]
+    match parts_of(v) {
+        Some((whole, _)) => whole,
+        None => v,
+    }
 }
 
 // What stands after the point, nothing where there is none.
+#[tactic(auto, unfolding(crate::specs::Numbers::decimals_of))]
 pub fn decimals_of<'a>(v: &'a [u8]) -> &'a [u8]
     ensures { result.now ≡ decimals_of v.now }
 {
-    let p = point_in(v);
-    if p < v.len() {
-        let q = p + 1;
-        return &v[q..];
+    match parts_of(v) {
+        Some((_, decimals)) => decimals,
+        None => &[],
     }
-    &v[p..]
 }
 
 // Num(digits, decimals).
+#[tactic(auto, using(crate::proofs::NumbersLaws::forms))]
 pub fn is_number(digits: usize, decimals: usize, v: &[u8]) -> bool
     ensures { result ≡ is_number digits decimals v.now }
 {
-    let w = whole_of(v);
-    if !run_of(1, digits, Class::Digit, w) {
-        return false;
+    match parts_of(v) {
+        Some((whole, tail)) => {
+            run_of(1, digits, Class::Digit, whole)
+                && run_of(1, decimals, Class::Digit, tail)
+                && whole.len() + tail.len() <= digits
+        }
+        None => run_of(1, digits, Class::Digit, v),
     }
-    if w.len() == v.len() {
-        return true;
-    }
-    let d = decimals_of(v);
-    if !run_of(1, decimals, Class::Digit, d) {
-        return false;
-    }
-    w.len() + d.len() <= digits
 }
 
 // What follows an opening minus; all of it where there is none.
+#[tactic(auto, unfolding(crate::specs::Numbers::unsigned_of))]
 pub fn unsigned_of<'a>(v: &'a [u8]) -> &'a [u8]
     ensures { result.now ≡ unsigned_of v.now }
 {
-    if v.len() == 0 {
-        return v;
+    match v {
+        [b'-', rest @ ..] => rest,
+        _ => v,
     }
-    if v[0] == b'-' {
-        return &v[1..];
-    }
-    v
 }
 
+#[tactic(auto, unfolding(crate::specs::Numbers::is_price))]
 pub fn is_price(v: &[u8]) -> bool
     ensures { result ≡ is_price v.now }
 {

@@ -2,9 +2,10 @@
 // A function on a whole slice has the loop; the one with `_at` lends it the part that is meant.
 #![tactic(auto)]
 
-ghost use Rattle.std.specs.Prelude.{◌≡◌, ◌+◌, ◌-◌, ◌*◌, ◌^◌, ◌<◌, ◌≤◌, min, length, get_or, take, drop, replicate, ltb};
+ghost use Rattle.std.specs.Prelude.{◌≡◌, ◌+◌, ◌-◌, ◌^◌, ◌<◌, ◌≤◌, min, length, get_or, take, replicate};
+ghost use Rattle.std.specs.List.{position, list_any};
 ghost use Rattle.octets.specs.Part.{part, splice, PartOf};
-ghost use Rattle.octets.specs.Same.{same_bytes, place_among};
+ghost use Rattle.octets.specs.Same.{same_bytes};
 ghost use Rattle.octets.specs.Number.{from_le, to_le, digits};
 ghost use Rattle.octets.specs.Field.{field};
 
@@ -15,110 +16,60 @@ const WORD: usize = 8;
 pub fn byte_at(s: &[u8], i: usize) -> u8
     ensures { result ≡ get_or s.now i 0 }
 {
-    if i < s.len() {
-        return s[i];
-    }
-    0
+    s.get(i).copied().unwrap_or(0)
 }
 
 // The n bytes from `at` on, as far as there are any: a part of the slice itself.
 pub fn part_of<'a>(s: &'a [u8], at: usize, n: usize) -> &'a [u8]
     ensures { (result.now ≡ part s.now at n) × PartOf s.entry at result }
 {
-    if s.len() < at {
-        return &s[..0];
-    }
-    if s.len() - at <= n {
-        return &s[at..];
-    }
-    let end = at + n;
-    &s[at..end]
-}
-
-// Whether a and b, which are the same from n on, hold the same bytes, compared from the last one.
-fn same_front(a: &[u8], b: &[u8], n: usize) -> bool
-    requires { (length a.now ≡ length b.now) × (n ≤ length a.now) × (drop n a.now ≡ drop n b.now) }
-    ensures { result ≡ same_bytes a.now b.now }
-{
-    let mut i = n;
-    while 0 < i {
-        i -= 1;
-        if a[i] != b[i] {
-            return false;
-        }
-    }
-    true
+    let from = at.min(s.len());
+    let end = from + n.min(s.len() - from);
+    &s[from..end]
 }
 
 // Whether a and b hold the same bytes: for codes and other short values.
 pub fn same(a: &[u8], b: &[u8]) -> bool
     ensures { result ≡ same_bytes a.now b.now }
 {
-    let n = a.len();
-    if n != b.len() {
-        return false;
-    }
-    same_front(a, b, n)
+    a.len() == b.len() && a.iter().zip(b).all(|(x, y)| x == y)
 }
 
-// Whether a and b, which are as long, hold the same bytes, compared from the last ones on, eight at a time.
-fn same_words(a: &[u8], b: &[u8]) -> bool
-    requires { length a.now ≡ length b.now }
-    ensures { result ≡ same_bytes a.now b.now }
-{
-    let mut i = a.len();
-    while WORD <= i {
-        let at = i - WORD;
-        if read_le(&a[at..i]) != read_le(&b[at..i]) {
-            return false;
-        }
-        i = at;
-    }
-    same_front(a, b, i)
-}
-
+// Stays: one contract with `same` and another speed: by `==`, as here, a search of twelve codes takes 84 instructions, not 21.
 // The same for longer values: the last eight bytes and the first eight are looked at before the others, since UTIs differ at one end.
+#[tactic(auto, using(crate::proofs::SameLaws::same_pointwise))]
 pub fn same_long(a: &[u8], b: &[u8]) -> bool
     ensures { result ≡ same_bytes a.now b.now }
 {
-    let n = a.len();
-    if n != b.len() {
+    if a.last_chunk::<WORD>() != b.last_chunk::<WORD>() {
         return false;
     }
-    if n < WORD {
-        return same_front(a, b, n);
-    }
-    let at = n - WORD;
-    if read_le(&a[at..n]) != read_le(&b[at..n]) {
+    if a.first_chunk::<WORD>() != b.first_chunk::<WORD>() {
         return false;
     }
-    if read_le(&a[..WORD]) != read_le(&b[..WORD]) {
-        return false;
-    }
-    same_words(a, b)
+    a == b
 }
 
-// The place of the first of `count` codes, each `width` bytes wide, that is the value; `count` where none is.
-pub fn place_in(v: &[u8], codes: &[u8], width: usize, count: usize) -> usize
-    requires { count * width ≤ length codes.now }
-    ensures { result ≡ place_among width count codes.now v.now }
+// The place of the first of the codes that is the value, where one is.
+pub fn place_in<const W: usize>(v: &[u8], codes: &[[u8; W]]) -> Option<usize>
+    ensures { result ≡ position (same_bytes v.now) codes.now }
 {
-    let mut k = 0;
-    while k < count {
-        if same(v, part_of(codes, k * width, width)) {
-            return k;
-        }
-        k += 1;
-    }
-    k
+    codes.iter().position(
+        |c: &[u8; W]| -> bool
+            ensures { result ≡ same_bytes v.entry.now c.now }
+        { same(v, c) },
+    )
 }
 
-// Whether the value is one of `count` codes, each `width` bytes wide.
-pub fn one_of(v: &[u8], codes: &[u8], width: usize, count: usize) -> bool
-    requires { count * width ≤ length codes.now }
-    ensures { result ≡ ltb (place_among width count codes.now v.now) count }
+// Whether the value is one of the codes.
+pub fn one_of<const W: usize>(v: &[u8], codes: &[[u8; W]]) -> bool
+    ensures { result ≡ list_any (same_bytes v.now) codes.now }
 {
-    place_in(v, codes, width, count) < count
+    codes.iter().any(
+        |c: &[u8; W]| -> bool
+            ensures { result ≡ same_bytes v.entry.now c.now }
+        { same(v, c) },
+    )
 }
 
 // Copies src into dst, which is as long.
@@ -126,22 +77,14 @@ pub fn copy(dst: &mut [u8], src: &[u8])
     requires { length src.now ≡ length dst.old }
     ensures { dst.new ≡ src.now }
 {
-    let mut i = 0;
-    while i < src.len() {
-        dst[i] = src[i];
-        i += 1;
-    }
+    dst.copy_from_slice(src);
 }
 
 // Fills dst with b.
 pub fn fill(dst: &mut [u8], b: u8)
     ensures { dst.new ≡ replicate (length dst.old) b }
 {
-    let mut i = 0;
-    while i < dst.len() {
-        dst[i] = b;
-        i += 1;
-    }
+    dst.fill(b);
 }
 
 // The number that the bytes of s stand for, at every width up to 8.
@@ -150,11 +93,8 @@ pub fn read_le(s: &[u8]) -> u64
     ensures { (result ≡ from_le s.now) × (result < 256 ^ length s.now) }
 {
     let mut v: u64 = 0;
-    let mut i = s.len();
-    while 0 < i {
-        i -= 1;
-        let b = s[i] as u64;
-        v = v * 256 + b;
+    for i in (0..s.len()).rev() {
+        v = v * 256 + u64::from(s[i]);
     }
     v
 }
@@ -164,11 +104,9 @@ pub fn write_le(dst: &mut [u8], v: u64)
     ensures { dst.new ≡ to_le (length dst.old) v }
 {
     let mut rest = v;
-    let mut i = 0;
-    while i < dst.len() {
-        dst[i] = (rest % 256) as u8;
-        rest = rest / 256;
-        i += 1;
+    for b in dst {
+        *b = (rest % 256) as u8;
+        rest /= 256;
     }
 }
 
@@ -177,11 +115,9 @@ pub fn write_digits(dst: &mut [u8], v: u64)
     ensures { dst.new ≡ digits (length dst.old) v }
 {
     let mut rest = v;
-    let mut i = dst.len();
-    while 0 < i {
-        i -= 1;
+    for i in (0..dst.len()).rev() {
         dst[i] = (rest % 10) as u8 + b'0';
-        rest = rest / 10;
+        rest /= 10;
     }
 }
 
@@ -190,53 +126,56 @@ pub fn read_at(s: &[u8], at: usize, n: usize) -> u64
     requires { n ≤ 8 }
     ensures { (result ≡ from_le (part s.now at n)) × (result < 256 ^ n) }
 {
+    // Stays: with `read_le(part_of(s, at, n))` a constant width is not unrolled: two bytes take 47 instructions, not 13.
     if s.len() < at {
         return 0;
     }
     if s.len() - at < n {
         return read_le(&s[at..]);
     }
-    let end = at + n;
-    read_le(&s[at..end])
+    read_le(&s[at..at + n])
 }
 
+// Stays: no function over `impl FnOnce(&mut [u8])` in place of the five `_at`: its promise is the closure's `post`, theirs are the bytes.
+// Stays: `at + n` within dst is asked of each: it is the bound of the slice that it lends, which a type for dst, at and n would ask as well.
 // Copies src into dst from `at` on.
+#[tactic(auto, unfolding(crate::specs::Part::splice))]
 pub fn copy_at(dst: &mut [u8], at: usize, src: &[u8])
     requires { at + length src.now ≤ length dst.old }
     ensures { dst.new ≡ splice dst.old at src.now }
 {
-    let end = at + src.len();
-    copy(&mut dst[at..end], src);
+    copy(&mut dst[at..at + src.len()], src);
 }
 
 // Writes n times the byte b from `at` on.
+#[tactic(auto, unfolding(crate::specs::Part::splice))]
 pub fn fill_at(dst: &mut [u8], at: usize, n: usize, b: u8)
     requires { at + n ≤ length dst.old }
     ensures { dst.new ≡ splice dst.old at (replicate n b) }
 {
-    let end = at + n;
-    fill(&mut dst[at..end], b);
+    fill(&mut dst[at..at + n], b);
 }
 
 // Writes the n lowest bytes of v from `at` on.
+#[tactic(auto, unfolding(crate::specs::Part::splice))]
 pub fn write_at(dst: &mut [u8], at: usize, n: usize, v: u64)
     requires { at + n ≤ length dst.old }
     ensures { dst.new ≡ splice dst.old at (to_le n v) }
 {
-    let end = at + n;
-    write_le(&mut dst[at..end], v);
+    write_le(&mut dst[at..at + n], v);
 }
 
 // Writes the last n decimal digits of v from `at` on.
+#[tactic(auto, unfolding(crate::specs::Part::splice))]
 pub fn digits_at(dst: &mut [u8], at: usize, n: usize, v: u64)
     requires { at + n ≤ length dst.old }
     ensures { dst.new ≡ splice dst.old at (digits n v) }
 {
-    let end = at + n;
-    write_digits(&mut dst[at..end], v);
+    write_digits(&mut dst[at..at + n], v);
 }
 
 // Writes s into dst from `at` on, as far as it fits, and answers the place behind it: a text is built piece by piece.
+#[tactic(auto, using(crate::proofs::PartLaws::splice_none))]
 pub fn append(dst: &mut [u8], at: usize, s: &[u8]) -> usize
     ensures { (dst.new ≡ splice dst.old at (take (length dst.old - at) s.now)) × (result ≡ min (length dst.old) (at + length s.now)) }
 {
@@ -258,10 +197,10 @@ pub fn write_field(dst: &mut [u8], src: &[u8])
 }
 
 // Writes src into the field of n bytes from `at` on.
+#[tactic(auto, unfolding(crate::specs::Part::splice))]
 pub fn field_at(dst: &mut [u8], at: usize, n: usize, src: &[u8])
     requires { at + n ≤ length dst.old }
     ensures { dst.new ≡ splice dst.old at (field n src.now) }
 {
-    let end = at + n;
-    write_field(&mut dst[at..end], src);
+    write_field(&mut dst[at..at + n], src);
 }

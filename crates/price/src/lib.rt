@@ -4,62 +4,59 @@
 ghost use Rattle.std.specs.Prelude.{◌≡◌, ℕ, ◌+◌, ◌≤◌, List, ◌++◌, length};
 ghost use Rattle.octets.specs.Part.{splice};
 ghost use Rattle.octets.specs.Field.{field, FieldHolds};
-ghost use Rattle.price.specs.Price.{drop_zeros, trim_zeros, shown_whole, shown_decimals, shows_minus, shown_sign, shown_price};
+ghost use Rattle.price.specs.Price.{drop_zeros, trim_zeros, shown_whole, shown_decimals, is_zero, shows_minus, shown_sign, shown_price};
 ghost use Rattle.price.specs.Laws.{PriceLaws};
 
 use numbers::{decimals_of, unsigned_of, whole_of};
-use octets::{append, byte_at, fill, part_of};
+use octets::{append, byte_at, fill};
 
 // The digits before the point without their leading zeros.
-fn drop_zeros<'a>(w: &'a [u8]) -> &'a [u8]
+#[tactic(auto, unfolding(crate::specs::Price::drop_zeros))]
+fn drop_zeros(w: &[u8]) -> &[u8]
     ensures { result.now ≡ drop_zeros w.now }
 {
-    let mut i = 0;
-    while i < w.len() {
-        if w[i] != b'0' {
-            return &w[i..];
-        }
-        i += 1;
+    let mut left = w;
+    while let [b'0', rest @ ..] = left {
+        left = rest;
     }
-    &w[i..]
+    left
 }
 
 // The digits after the point without their trailing zeros.
-fn trim_zeros<'a>(d: &'a [u8]) -> &'a [u8]
+#[tactic(auto, using(crate::proofs::PriceLaws::trim_turn, crate::proofs::PriceLaws::trim_none))]
+fn trim_zeros(d: &[u8]) -> &[u8]
     ensures { result.now ≡ trim_zeros d.now }
 {
-    let mut n = d.len();
-    while 0 < n {
-        if d[n - 1] != b'0' {
-            return &d[..n];
-        }
-        n -= 1;
+    let mut left = d;
+    while let [front @ .., b'0'] = left {
+        left = front;
     }
-    &d[..n]
+    left
+}
+
+// Whether the number is zero.
+#[tactic(auto, using(crate::proofs::PriceLaws::zero_left))]
+fn is_zero(v: &[u8]) -> bool
+    ensures { result ≡ is_zero v.now }
+{
+    let u = unsigned_of(v);
+    drop_zeros(whole_of(u)).is_empty() && trim_zeros(decimals_of(u)).is_empty()
 }
 
 // Whether the line shows a minus: not before a zero.
+#[tactic(auto, unfolding(crate::specs::Price::shows_minus))]
 fn shows_minus(v: &[u8]) -> bool
     ensures { result ≡ shows_minus v.now }
 {
-    if byte_at(v, 0) != b'-' {
-        return false;
-    }
-    let u = unsigned_of(v);
-    if drop_zeros(whole_of(u)).len() != 0 {
-        return true;
-    }
-    trim_zeros(decimals_of(u)).len() != 0
+    byte_at(v, 0) == b'-' && !is_zero(v)
 }
 
-// The minus as a part of the value, or nothing.
-fn sign_of<'a>(v: &'a [u8]) -> &'a [u8]
+// The minus, or nothing.
+#[tactic(auto, unfolding(crate::specs::Price::shown_sign, octets::specs::Text::text))]
+fn sign_of(v: &[u8]) -> &'static [u8]
     ensures { result.now ≡ shown_sign v.now }
 {
-    if shows_minus(v) {
-        return part_of(v, 0, 1);
-    }
-    part_of(v, 0, 0)
+    if shows_minus(v) { b"-" } else { b"" }
 }
 
 // Appends the digits before the point to the text in dst.
@@ -67,7 +64,7 @@ fn append_whole(dst: &mut [u8], at: usize, w: &[u8]) -> usize
     ensures { (n : ℕ) (xs : List ℕ) → FieldHolds n xs dst.old at → FieldHolds n (xs ++ shown_whole w.now) dst.new result }
 {
     let kept = drop_zeros(w);
-    if kept.len() == 0 {
+    if kept.is_empty() {
         return append(dst, at, b"0");
     }
     append(dst, at, kept)
@@ -78,7 +75,7 @@ fn append_decimals(dst: &mut [u8], at: usize, d: &[u8]) -> usize
     ensures { (n : ℕ) (xs : List ℕ) → FieldHolds n xs dst.old at → FieldHolds n (xs ++ shown_decimals d.now) dst.new result }
 {
     let rest = trim_zeros(d);
-    if rest.len() == 0 {
+    if rest.is_empty() {
         return at;
     }
     let next = append(dst, at, b".");
@@ -102,6 +99,5 @@ pub fn price_at(dst: &mut [u8], at: usize, n: usize, v: &[u8])
     requires { at + n ≤ length dst.old }
     ensures { dst.new ≡ splice dst.old at (field n (shown_price v.now)) }
 {
-    let end = at + n;
-    write_price(&mut dst[at..end], v);
+    write_price(&mut dst[at..at + n], v);
 }

@@ -1,4 +1,6 @@
 pub mod AnswerLaws
+pub mod StatusLaws
 pub mod DecisionLaws
 pub mod AdmissionLaws
 pub mod AnswerSizes
+pub mod Demanded

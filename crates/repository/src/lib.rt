@@ -7,7 +7,7 @@ mod apply;
 mod conclude;
 mod decide;
 mod operations;
-mod verdicts;
+mod refusal;
 
 ghost use Rattle.std.specs.Prelude.{◌≡◌};
 ghost use Rattle.submission.specs.Opening.{document_limits, opened};
@@ -16,20 +16,33 @@ ghost use Rattle.submission.specs.Submission.{submitted};
 ghost use Rattle.submission.specs.Status.{asked};
 ghost use Rattle.submission.specs.Totals.{asked_totals};
 ghost use Rattle.repository.specs.Answers.{caps_of, submission_answer, question_answer, answer_in};
+ghost use Rattle.repository.specs.Refusals.{verdict_of};
 ghost use Rattle.repository.specs.Demands.{OpeningDemands, SubmissionDemands, QuestionDemands, TotalsDemands};
 
+pub use answer::Answer;
 use answer::pack;
-pub use answer::{Answer, refusal};
 use ledger::{Caps, TOTALS};
 use operations::status;
 pub use operations::{open, submit};
+pub use refusal::Refusal;
 
 // The specification's limits: the longest message in bytes, and the largest capacity in rows.
 pub const LONGEST_MESSAGE: usize = 2_048;
 
 pub const LARGEST_CAPACITY: u32 = 100_000;
 
+// The number that refuses; 0 where nothing does.
+fn verdict_of<T: Copy>(answer: Result<T, Refusal>) -> u32
+    ensures { result ≡ verdict_of answer }
+{
+    match answer {
+        Ok(_) => 0,
+        Err(refusal) => u32::from(refusal.verdict()),
+    }
+}
+
 // Opens a ledger with the caps of the five asset classes; answers the verdict.
+// Stays: five numbers and no Caps: repository_c exports them so, and its clauses are these word for word.
 pub fn sdr_open(
     ledger: &mut [u8],
     cap_cr: u64,
@@ -50,7 +63,7 @@ pub fn sdr_open(
         eq: cap_eq,
         co: cap_co,
     };
-    open(ledger, caps, LARGEST_CAPACITY) as u32
+    verdict_of(open(ledger, caps, LARGEST_CAPACITY))
 }
 
 // Submits a message; answers verdict, element and the identifier of its line in one number.
@@ -61,8 +74,7 @@ pub fn sdr_submit(ledger: &mut [u8], tape: &mut [u8], message: &[u8]) -> u64
         ≡ (submitted document_limits (lent_of ledger.old tape.old) message.now).lent }
     ensures submission_demands { SubmissionDemands }
 {
-    let a = submit(ledger, tape, message, LONGEST_MESSAGE, LARGEST_CAPACITY);
-    pack(a.verdict, a.element, a.status, a.identifier)
+    pack(submit(ledger, tape, message, LONGEST_MESSAGE, LARGEST_CAPACITY))
 }
 
 // Asks the status of a swap; answers verdict, element, status and last identifier in one number.
@@ -70,8 +82,7 @@ pub fn sdr_status(ledger: &[u8], uti: &[u8]) -> u64
     ensures result_value { answer_in result ≡ question_answer (asked document_limits ledger.now uti.now) }
     ensures question_demands { QuestionDemands }
 {
-    let a = status(ledger, uti, LARGEST_CAPACITY);
-    pack(a.verdict, a.element, a.status, a.identifier)
+    pack(Answer::from(status(ledger, uti, LARGEST_CAPACITY)))
 }
 
 // Asks how many swaps are live, closed, errored and ported; answers the verdict. Beside a refusal the totals are 0.
@@ -80,5 +91,7 @@ pub fn sdr_totals(ledger: &[u8], totals: &mut [u32; TOTALS]) -> u32
     ensures totals_after { totals.new ≡ (asked_totals document_limits ledger.now).totals }
     ensures totals_demands { TotalsDemands }
 {
-    operations::totals(ledger, totals, LARGEST_CAPACITY) as u32
+    let answer = operations::totals(ledger, LARGEST_CAPACITY);
+    *totals = answer.unwrap_or([0; TOTALS]);
+    verdict_of(answer)
 }

@@ -1,4 +1,5 @@
 -- The rules after the layout's depend on the values of a message alone. Assumes nothing.
+use Rattle.std.specs.Prelude.{Result, Err, Ok}
 use Prim.Native.Nat.{ℕ}
 use mathlib.Core.Path.{◌≡◌, refl, ap, ap₂}
 use mathlib.Core.Bool.{Bool, not}
@@ -6,13 +7,10 @@ use mathlib.Core.List.{List, ◌∷◌}
 use Rattle.octets.specs.Bytes.{Bytes}
 use Rattle.message.specs.Values.{value, is_there}
 use Rattle.actions.specs.declared.Action.{Action}
-use Rattle.actions.specs.declared.Checked.{Checked}
-use Rattle.actions.specs.declared.Checked.TheVariants.{Fault, Value}
 use Rattle.actions.specs.Actions.{action_type, action_of}
 use Rattle.elements.specs.Messages.{has_layout}
 use Rattle.elements.specs.Conditions.{is_package, value_is, is_quoted, quote_of, facts_of, is_due}
-use Rattle.rules.specs.declared.checks.Check.{Check}
-use Rattle.rules.specs.declared.checks.Check.TheVariants.{Needed, Taken, Formed, Due}
+use Rattle.rules.specs.Rules.{Check, Needed, Taken, Formed, Due}
 use Rattle.rules.specs.Verdicts.{layout_wrong}
 use Rattle.rules.specs.Findings.{Rule, test}
 use Rattle.rules.specs.Rules.{at_fault, has_both_quotes, long_quote, has_long_price, out_of_order, rules_of, laid_rules, rules_for, action_in}
@@ -36,10 +34,10 @@ module _ (m₁ m₂ : Bytes) (same : (code : ℕ) → value code m₁ ≡ value 
   unfolding rules_of has_both_quotes has_long_price long_quote out_of_order is_quoted is_package value_is is_there
   rules_same a = simp (faults_same, same)
 
-  pub laid_same : (r : Checked) → laid_rules r m₁ ≡ laid_rules r m₂
-  laid_same (Fault code) = refl
-  laid_same (Value a) = rw (rules_same a)
+  pub laid_same : (r : Result Action ℕ) → laid_rules r m₁ ≡ laid_rules r m₂
+  laid_same (Err code) = refl
+  laid_same (Ok a) = rw (rules_same a)
 
-  pub rules_for_same : (r : Checked) (longest : ℕ) → has_layout longest m₁ ≡ has_layout longest m₂ → rules_for r longest m₁ ≡ rules_for r longest m₂
+  pub rules_for_same : (r : Result Action ℕ) (longest : ℕ) → has_layout longest m₁ ≡ has_layout longest m₂ → rules_for r longest m₁ ≡ rules_for r longest m₂
   unfolding rules_for
   rules_for_same r longest layout = ap₂ (λ (t : Bool) (rs : List Rule). test layout_wrong (not t) ∷ rs) layout (laid_same r)

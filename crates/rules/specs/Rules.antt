@@ -1,36 +1,42 @@
 -- Specification, section 9: rules 5 to 13 and 19, which judge a message alone.
-use Rattle.std.specs.Prelude.{ℕ, ◌+◌, Bool, false, not, ◌≡◌, List, [], ◌∷◌, length, ltb, eqb}
+use Rattle.std.specs.Prelude.{ℕ, ◌+◌, ◌≤◌, Option, Bool, false, not, ◌≡◌, List, [], ◌∷◌, length, ltb, eqb, Err, Ok, Result}
+use Rattle.std.specs.Borrow.{Bor}
 use Rattle.octets.specs.Bytes.{Bytes}
 use Rattle.octets.specs.Choice.{choose, both, either}
 use Rattle.octets.specs.Text.{text}
 use Rattle.numbers.specs.Numbers.{whole_of, decimals_of, unsigned_of}
 use Rattle.dates.specs.Dates.{before}
 use Rattle.message.specs.Values.{value, is_there}
+use Rattle.message.specs.Reading.{Read}
 use Rattle.actions.specs.declared.Action.{Action}
-use Rattle.actions.specs.declared.Checked.{Checked}
-use Rattle.actions.specs.declared.Checked.TheVariants as checked
 use Rattle.actions.specs.Actions.{action_type, action_of, is_full}
 use Rattle.elements.specs.Messages.{has_layout, takes, needs}
 use Rattle.actions.specs.Matrix.{pair_allowed}
 use Rattle.elements.specs.Codes.{event_type, reporting_timestamp, execution_timestamp, effective_date, expiration_date, settlement_date, package_price, price_notation, package_spread, spread_notation}
+use Rattle.elements.specs.Table.{last_code}
 use Rattle.elements.specs.Forms.{has_form}
 use Rattle.elements.specs.Conditions.{is_package, value_is, is_quoted, facts_of, is_due}
 use Rattle.elements.specs.declared.conditions.Facts.{Facts}
 use Rattle.rules.specs.Verdicts.{layout_wrong, action_wrong, element_missing, element_not_taken, form_broken, not_a_pair, conditional_missing, price_and_spread, price_too_long, dates_disordered}
 use Rattle.rules.specs.Findings.{Finding, passed, broken, lowest, Rule, test, naming, first_broken, from_rule}
-use Rattle.rules.specs.declared.Judged.{Judged}
-use Rattle.rules.specs.declared.Judged.TheVariants as answer
-use Rattle.rules.specs.declared.checks.Check.{Check}
-use Rattle.rules.specs.declared.checks.Check.TheVariants.{Needed, Taken, Formed, Due}
+use Rattle.rules.specs.declared.verdicts.Refusal.{Refusal}
+use Rattle.rules.specs.declared.verdicts.Refusal.TheVariants.{LayoutWrong, ActionWrong, ElementMissing, ElementNotTaken, FormBroken, NotAPair, ConditionalMissing, PriceAndSpread, PriceTooLong, DatesDisordered}
 
 -- what a check answers is what a rule finds: the element at fault, or that the rule is passed
-abbrev pub finding : Checked → Finding
-finding (checked.Fault code) = broken code
-finding (checked.Value a) = passed
+abbrev pub finding : Result Action ℕ → Finding
+finding (Err code) = broken code
+finding (Ok a) = passed
 
-abbrev pub answer_of : Action → Finding → Checked
-answer_of a passed = checked.Value a
-answer_of a (broken code) = checked.Fault code
+abbrev pub answer_of : Action → Finding → Result Action ℕ
+answer_of a passed = Ok a
+answer_of a (broken code) = Err code
+
+-- the checks that name the lowest element code at fault: 7, 8, 9 and 11
+pub data Check : Type 0 where
+  Needed : Check
+  Taken : Check
+  Formed : Check
+  Due : Check
 
 -- an element is at fault: it is needed and missing (7), there and not taken (8), there in a broken form (9), or due under its condition and missing (11)
 abbrev pub at_fault : Check → Action → Bytes → ℕ → Bool
@@ -45,6 +51,11 @@ FactsFor Needed f m = Unit {0}
 FactsFor Taken f m = Unit {0}
 FactsFor Formed f m = Unit {0}
 FactsFor Due f m = f ≡ facts_of m
+
+-- a test of the code says of each element whether it is at fault, by what a reader has of it
+abbrev pub TellsFaults : (ℕ → Option (Bor Bytes) → Bool → Type 0) → (ℕ → Bool) → Bytes → Type 0
+TellsFaults says faulty m =
+    (code : ℕ) (value : Option (Bor Bytes)) (b : Bool) → code ≤ last_code → Read m code value → says code value b → b ≡ faulty code
 
 -- the number of a check
 abbrev pub number_of : Check → ℕ
@@ -108,20 +119,20 @@ rules_of a m =
     ∷ []
 
 -- where 6 is broken there is no action, and nothing is judged after it
-abbrev pub after_action : Checked → Bytes → List Rule
-after_action (checked.Fault code) m = []
-after_action (checked.Value a) m = rules_of a m
+abbrev pub after_action : Result Action ℕ → Bytes → List Rule
+after_action (Err code) m = []
+after_action (Ok a) m = rules_of a m
 
 -- the rules after the layout's, by what the action's element says
-abbrev pub laid_rules : Checked → Bytes → List Rule
+abbrev pub laid_rules : Result Action ℕ → Bytes → List Rule
 laid_rules action m = naming action_wrong (finding action) ∷ after_action action m
 
 -- the rules in checking order
-unfoldable pub rules_for : Checked → ℕ → Bytes → List Rule
+unfoldable pub rules_for : Result Action ℕ → ℕ → Bytes → List Rule
 rules_for action longest m = test layout_wrong (not (has_layout longest m)) ∷ laid_rules action m
 
 -- what the value of the action's element says
-abbrev pub action_in : Bytes → Checked
+abbrev pub action_in : Bytes → Result Action ℕ
 action_in m = action_of (value action_type m)
 
 abbrev pub rules : ℕ → Bytes → List Rule
@@ -132,23 +143,41 @@ unfoldable pub verdict : ℕ → Bytes → ℕ × ℕ
 verdict longest m = first_broken (rules longest m)
 
 -- what judging answers: a refusal with verdict and element, or the action of a message that no rule refuses
-abbrev pub conclude : ℕ × ℕ → Checked → Judged
-conclude v (checked.Fault code) = answer.Refused v.0 v.1
-conclude v (checked.Value a) = choose (eqb v.0 0) (answer.Value a) (answer.Refused v.0 v.1)
+abbrev pub conclude : ℕ × ℕ → Result Action ℕ → Result Action (ℕ × ℕ)
+conclude v (Err code) = Err v
+conclude v (Ok a) = choose (eqb v.0 0) (Ok a) (Err v)
 
-unfoldable pub judged : ℕ → Bytes → Judged
+unfoldable pub judged : ℕ → Bytes → Result Action (ℕ × ℕ)
 judged longest m = conclude (verdict longest m) (action_in m)
 
 -- what judging answers where the layout is right and no rule before number n is broken
-unfoldable pub judged_from : ℕ → Checked → Bytes → Judged
+unfoldable pub judged_from : ℕ → Result Action ℕ → Bytes → Result Action (ℕ × ℕ)
 judged_from n action m = conclude (first_broken (from_rule n (laid_rules action m))) action
 
 -- what a check says under its number: a refusal that names the element at fault, or the action
-abbrev pub judged_by : ℕ → Checked → Judged
-judged_by n (checked.Fault code) = answer.Refused n code
-judged_by n (checked.Value a) = answer.Value a
+abbrev pub judged_by : ℕ → Result Action ℕ → Result Action (ℕ × ℕ)
+judged_by n (Err code) = Err (n, code)
+judged_by n (Ok a) = Ok a
 
 -- the specification's number and element of an answer
-abbrev pub verdict_of : Judged → ℕ × ℕ
-verdict_of (answer.Refused v e) = (v, e)
-verdict_of (answer.Value a) = (0, 0)
+abbrev pub verdict_of : Result Action (ℕ × ℕ) → ℕ × ℕ
+verdict_of (Err v) = v
+verdict_of (Ok a) = (0, 0)
+
+-- the specification's number and element of each refusal
+abbrev pub numbers_of : Refusal → ℕ × ℕ
+numbers_of LayoutWrong = (layout_wrong, 0)
+numbers_of (ActionWrong e) = (action_wrong, e)
+numbers_of (ElementMissing e) = (element_missing, e)
+numbers_of (ElementNotTaken e) = (element_not_taken, e)
+numbers_of (FormBroken e) = (form_broken, e)
+numbers_of NotAPair = (not_a_pair, 0)
+numbers_of (ConditionalMissing e) = (conditional_missing, e)
+numbers_of PriceAndSpread = (price_and_spread, 0)
+numbers_of PriceTooLong = (price_too_long, 0)
+numbers_of DatesDisordered = (dates_disordered, 0)
+
+-- an answer of the code, with number and element in the place of a refusal
+abbrev pub numbered : Result Action Refusal → Result Action (ℕ × ℕ)
+numbered (Err r) = Err (numbers_of r)
+numbered (Ok a) = Ok a

@@ -1,20 +1,52 @@
-// The verdict numbers of a message alone, as specs/Verdicts.antt has them.
-pub const LAYOUT_WRONG: u8 = 5;
+// What is refused of a message alone, under its number in specs/Verdicts.antt.
+ghost use Rattle.std.specs.Prelude.{◌≡◌};
+ghost use Rattle.rules.specs.Rules.{numbers_of};
 
-pub const ACTION_WRONG: u8 = 6;
+// A rule that a message breaks, with the code of the element at fault where the rule names one.
+#[derive(Clone, Copy, Debug, PartialEq, Eq)]
+pub enum Refusal {
+    LayoutWrong,
+    ActionWrong(u8),
+    ElementMissing(u8),
+    ElementNotTaken(u8),
+    FormBroken(u8),
+    NotAPair,
+    ConditionalMissing(u8),
+    PriceAndSpread,
+    PriceTooLong,
+    DatesDisordered,
+}
 
-pub const ELEMENT_MISSING: u8 = 7;
+impl Refusal {
+    // The number of the rule.
+    pub fn verdict(self) -> u8
+        ensures { result ≡ (numbers_of self).0 }
+    {
+        match self {
+            Refusal::LayoutWrong => 5,
+            Refusal::ActionWrong(_) => 6,
+            Refusal::ElementMissing(_) => 7,
+            Refusal::ElementNotTaken(_) => 8,
+            Refusal::FormBroken(_) => 9,
+            Refusal::NotAPair => 10,
+            Refusal::ConditionalMissing(_) => 11,
+            Refusal::PriceAndSpread => 19,
+            Refusal::PriceTooLong => 12,
+            Refusal::DatesDisordered => 13,
+        }
+    }
 
-pub const ELEMENT_NOT_TAKEN: u8 = 8;
-
-pub const FORM_BROKEN: u8 = 9;
-
-pub const NOT_A_PAIR: u8 = 10;
-
-pub const CONDITIONAL_MISSING: u8 = 11;
-
-pub const PRICE_AND_SPREAD: u8 = 19;
-
-pub const PRICE_TOO_LONG: u8 = 12;
-
-pub const DATES_DISORDERED: u8 = 13;
+    // The element at fault; 0 where the rule names none.
+    pub fn element(self) -> u8
+        ensures { result ≡ (numbers_of self).1 }
+    {
+        match self {
+            Refusal::ActionWrong(code)
+            | Refusal::ElementMissing(code)
+            | Refusal::ElementNotTaken(code)
+            | Refusal::FormBroken(code)
+            | Refusal::ConditionalMissing(code) => code,
+            _ => 0,
+        }
+    }
+}

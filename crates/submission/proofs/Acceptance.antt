@@ -1,4 +1,5 @@
 -- What the verdict 0 tells of ledger, tape buffer and message. Assumes nothing.
+use Rattle.std.specs.Prelude.{Result, Err, Ok}
 use Prim.Native.Nat.{ℕ, suc, ◌-◌, ◌<◌, ◌≤◌}
 use mathlib.Core.Bool.{Bool, true, false, not, false≢true}
 use mathlib.Core.Path.{◌≡◌, refl, sym, ap, ◌∙◌, subst}
@@ -13,8 +14,6 @@ use Rattle.octets.proofs.ChoiceLaws.{both_first, both_second, both_false, not_no
 use Rattle.values.specs.Limits.{uti_least, uti_most}
 use Rattle.values.specs.Run.{within, run_of}
 use Rattle.actions.specs.declared.Action.{Action}
-use Rattle.actions.specs.declared.Checked.{Checked}
-use Rattle.actions.specs.declared.Checked.TheVariants.{Fault, Value}
 use Rattle.actions.specs.Actions.{is_new, next_status}
 use Rattle.actions.specs.Statuses.{live, ported, unknown, no_step}
 use Rattle.actions.proofs.TableLaws.{step_to}
@@ -24,7 +23,7 @@ use Rattle.message.specs.Values.{is_there}
 use Rattle.elements.specs.Forms.{has_form}
 use Rattle.elements.specs.Messages.{needs as is-needed}
 use Rattle.elements.specs.Table.{element_of}
-use Rattle.rules.specs.declared.checks.Check.TheVariants.{Needed, Formed}
+use Rattle.rules.specs.Rules.{Needed, Formed}
 use Rattle.rules.specs.Verdicts.{layout_wrong, action_wrong, element_missing, form_broken}
 use Rattle.rules.specs.Findings.{passed, broken, test, first_broken, finding_of, from_rule, before_rule, AllPassed}
 use Rattle.rules.specs.Rules.{rules_for, rules_of, at_fault}
@@ -44,35 +43,35 @@ use Rattle.submission.specs.Submission.{swap_of, action_in, line_due_in, row_rig
 
 module _ (limits : Limits) (lent : Lent) (m : Bytes) where
   -- no two rules have the same number, and none has 0
-  pub numbers_differ : (r : Checked) → distinct (submission_rules limits r lent m) ≡ true
+  pub numbers_differ : (r : Result Action ℕ) → distinct (submission_rules limits r lent m) ≡ true
   unfolding submission_rules rules_for rules_of swap_rules unused distinct
-  numbers_differ (Fault code) = refl
-  numbers_differ (Value a) = refl
+  numbers_differ (Err code) = refl
+  numbers_differ (Ok a) = refl
 
-  admitting_differ : (r : Checked) → distinct (admitting_rules limits r lent m) ≡ true
+  admitting_differ : (r : Result Action ℕ) → distinct (admitting_rules limits r lent m) ≡ true
   unfolding submission_rules rules_for rules_of swap_rules unused distinct before_rule
-  admitting_differ (Fault code) = refl
-  admitting_differ (Value a) = refl
+  admitting_differ (Err code) = refl
+  admitting_differ (Ok a) = refl
 
   -- a message that every rule but 18 admits has an action
   pub record Admitted : Type 0 where
     pub action : Action
-    pub reads : action_in m ≡ Value action
-    pub passes : AllPassed (admitting_rules limits (Value action) lent m)
+    pub reads : action_in m ≡ Ok action
+    pub passes : AllPassed (admitting_rules limits (Ok action) lent m)
 
   pub as_admitted : (first_broken (admitting_rules limits (action_in m) lent m)).0 ≡ 0 → Admitted
   unfolding submission_rules rules_for finding_of before_rule
   as_admitted v = by (action_in m) refl
     where
-      passing : (r : Checked) → action_in m ≡ r → AllPassed (admitting_rules limits r lent m)
+      passing : (r : Result Action ℕ) → action_in m ≡ r → AllPassed (admitting_rules limits r lent m)
       passing r e = all_passed (admitting_rules limits r lent m) (admitting_differ r) (ap (λ r. (first_broken (admitting_rules limits r lent m)).0) (sym e) ∙ v)
 
-      by : (r : Checked) → action_in m ≡ r → Admitted
-      by (Fault code) e =
-          let p : broken code ≡ passed = is_passed action_wrong (admitting_rules limits (Fault code) lent m) (passing (Fault code) e) in
+      by : (r : Result Action ℕ) → action_in m ≡ r → Admitted
+      by (Err code) e =
+          let p : broken code ≡ passed = is_passed action_wrong (admitting_rules limits (Err code) lent m) (passing (Err code) e) in
           let z : ◌≡◌ {A = ℕ} 0 1 = cc in
           absurd (omega arith)
-      by (Value a) e = record { action = a; reads = e; passes = passing (Value a) e }
+      by (Ok a) e = record { action = a; reads = e; passes = passing (Ok a) e }
 
   -- where it has an identifier for its line too, it is accepted
   pub record Accepted : Type 0 where
@@ -80,13 +79,13 @@ module _ (limits : Limits) (lent : Lent) (m : Bytes) where
     pub spare : finds_spent (line_due_in admitted.action lent.ledger m) (next_identifier lent.ledger) ≡ false
 
   -- 18 stands behind the other rules
-  pub eighteen_last : (a : Action) → submission_rules limits (Value a) lent m ≡ admitting_rules limits (Value a) lent m ++ (identifier_rule a lent.ledger m ∷ [])
+  pub eighteen_last : (a : Action) → submission_rules limits (Ok a) lent m ≡ admitting_rules limits (Ok a) lent m ++ (identifier_rule a lent.ledger m ∷ [])
   unfolding submission_rules rules_for rules_of swap_rules before_rule
   eighteen_last a = refl
 
-  is_spare : (a : Action) → AllPassed (submission_rules limits (Value a) lent m) → finds_spent (line_due_in a lent.ledger m) (next_identifier lent.ledger) ≡ false
+  is_spare : (a : Action) → AllPassed (submission_rules limits (Ok a) lent m) → finds_spent (line_due_in a lent.ledger m) (next_identifier lent.ledger) ≡ false
   unfolding submission_rules rules_for rules_of swap_rules finding_of
-  is_spare a all = not_broken _ (is_passed identifiers_spent (submission_rules limits (Value a) lent m) all)
+  is_spare a all = not_broken _ (is_passed identifiers_spent (submission_rules limits (Ok a) lent m) all)
 
   pub as_accepted : (verdict_on limits lent m).0 ≡ 0 → Accepted
   unfolding verdict_on
@@ -101,7 +100,7 @@ module _ (limits : Limits) (lent : Lent) (m : Bytes) where
   left_to_18 c =
       ap (λ r. first_broken (submission_rules limits r lent m)) c.reads
       ∙ ap first_broken (eighteen_last c.action)
-      ∙ passed_then (admitting_rules limits (Value c.action) lent m) (identifier_rule c.action lent.ledger m ∷ []) c.passes
+      ∙ passed_then (admitting_rules limits (Ok c.action) lent m) (identifier_rule c.action lent.ledger m ∷ []) c.passes
       ∙ by (finds_spent (line_due_in c.action lent.ledger m) (next_identifier lent.ledger))
     where
       by : (b : Bool) → first_broken (test identifiers_spent b ∷ []) ≡ choose b (identifiers_spent, 0) (0, 0)
@@ -152,8 +151,8 @@ module _ {limits : Limits} {lent : Lent} {m : Bytes} (c : Admitted limits lent m
   a = c.action
 
   -- the rule with number n
-  rule_passed : (n : ℕ) → finding_of n (admitting_rules limits (Value a) lent m) ≡ passed
-  rule_passed n = is_passed n (admitting_rules limits (Value a) lent m) c.passes
+  rule_passed : (n : ℕ) → finding_of n (admitting_rules limits (Ok a) lent m) ≡ passed
+  rule_passed n = is_passed n (admitting_rules limits (Ok a) lent m) c.passes
 
   pub header_test : header_right limits.largest l ≡ true
   unfolding submission_rules rules_for rules_of swap_rules finding_of before_rule
@@ -176,9 +175,9 @@ module _ {limits : Limits} {lent : Lent} {m : Bytes} (c : Admitted limits lent m
   time_test = not_broken _ (rule_passed other_time)
 
   -- the rules of the message alone
-  pub message_passes : AllPassed (rules_for (Value a) limits.longest m)
+  pub message_passes : AllPassed (rules_for (Ok a) limits.longest m)
   unfolding submission_rules rules_for rules_of swap_rules from_rule before_rule
-  message_passes = passed_front (rules_for (Value a) limits.longest m) (rules_in a l m) (passed_from layout_wrong (admitting_rules limits (Value a) lent m) c.passes)
+  message_passes = passed_front (rules_for (Ok a) limits.longest m) (rules_in a l m) (passed_from layout_wrong (admitting_rules limits (Ok a) lent m) c.passes)
 
   pub room_test : both (is_new a) (eqb (rows_in_use l) (capacity_in l)) ≡ false
   unfolding submission_rules rules_for rules_of swap_rules finding_of before_rule finds_full header_of
@@ -257,6 +256,6 @@ module _ (limits : Limits) (lent : Lent) (m : Bytes) where
   unfolding submitted
   is_refused n v = by (action_in m)
     where
-      by : (r : Checked) → concluded (verdict_on limits lent m) r lent m ≡ refused (verdict_on limits lent m) lent
-      by (Fault code) = refl
-      by (Value a) = rw (ne_eqb (verdict_on limits lent m).0 0 (λ e. omega (arith, e, v)))
+      by : (r : Result Action ℕ) → concluded (verdict_on limits lent m) r lent m ≡ refused (verdict_on limits lent m) lent
+      by (Err code) = refl
+      by (Ok a) = rw (ne_eqb (verdict_on limits lent m).0 0 (λ e. omega (arith, e, v)))

@@ -1,4 +1,5 @@
 -- Identifiers count lines; calls that write nothing. Assumes nothing.
+use Rattle.std.specs.Prelude.{Ok}
 use Prim.Native.Nat.{ℕ, ◌+◌, ◌^◌, ◌<◌, ◌≤◌}
 use mathlib.Core.Bool.{Bool, true, false, false≢true}
 use mathlib.Core.Path.{◌≡◌, refl, sym, ap, ◌∙◌}
@@ -10,7 +11,6 @@ use Rattle.octets.specs.Bytes.{Bytes}
 use Rattle.octets.specs.Choice.{choose, both}
 use Rattle.octets.proofs.ChoiceLaws.{both_first, both_none}
 use Rattle.actions.specs.declared.Action.TheVariants.{Modi}
-use Rattle.actions.specs.declared.Checked.TheVariants.{Value}
 use Rattle.rules.specs.Findings.{AllPassed}
 use Rattle.ledger.specs.declared.header.Caps.{Caps}
 use Rattle.ledger.specs.Layout.{u32}
@@ -100,7 +100,7 @@ quiet_call limits l [] c after same none = rw (none, same)
 quiet_call limits l (b ∷ before) c after same none = ap (λ rest. line_of limits l b ++ rest) (quiet_call limits (ledger_after limits l b) before c after same none)
 
 -- so does a modification that shows nothing
-pub quiet_modification_call : (limits : Limits) → limits.largest < 256 ^ u32 → (l : Bytes) (before : List Call) (m : Bytes) (b : Buffers) (after : List Call) → action_in m ≡ Value Modi
+pub quiet_modification_call : (limits : Limits) → limits.largest < 256 ^ u32 → (l : Bytes) (before : List Call) (m : Bytes) (b : Buffers) (after : List Call) → action_in m ≡ Ok Modi
     → AllPassed (admitting_rules limits (action_in m) (record { ledger = ledger_after_all limits l before; buffers = b }) m)
     → masked_terms (caps_in (ledger_after_all limits l before)) m ≡ stored_terms (swap_row (ledger_after_all limits l before) (swap_of m))
     → tape limits l (before ++ (submit m b ∷ after)) ≡ tape limits l (before ++ after)

@@ -1,4 +1,5 @@
 -- Demand 1. Assumes nothing.
+use Rattle.std.specs.Prelude.{Result, Err, Ok}
 use Prim.Native.Nat.{ℕ, zero, suc}
 use mathlib.Core.Bool.{Bool, true, false, not}
 use mathlib.Core.Path.{◌≡◌, refl, sym, ap, ◌∙◌}
@@ -12,13 +13,10 @@ use Rattle.octets.specs.Choice.{choose}
 use Rattle.octets.specs.Part.{splice}
 use Rattle.message.specs.Values.{value}
 use Rattle.actions.specs.declared.Action.{Action}
-use Rattle.actions.specs.declared.Checked.{Checked}
-use Rattle.actions.specs.declared.Checked.TheVariants.{Fault, Value}
 use Rattle.actions.specs.Actions.{action_type}
 use Rattle.elements.specs.Codes.{uti}
 use Rattle.elements.specs.Forms.{has_form}
-use Rattle.rules.specs.declared.checks.Check.{Check}
-use Rattle.rules.specs.declared.checks.Check.TheVariants.{Needed, Taken, Formed, Due}
+use Rattle.rules.specs.Rules.{Check, Needed, Taken, Formed, Due}
 use Rattle.rules.specs.Verdicts.{action_wrong, form_broken}
 use Rattle.rules.specs.Findings.{passed, broken, lowest, Rule, test, naming, first_broken, finding_of, is_one_of}
 use Rattle.rules.specs.Rules.{finding, at_fault, rules_for, rules_of, number_of}
@@ -45,19 +43,19 @@ module _ (limits : Limits) (lent : Lent) (m : Bytes) where
   abbrev answer : Submitted
   answer = submitted limits lent m
 
-  abbrev rules : Checked → List Rule
+  abbrev rules : Result Action ℕ → List Rule
   rules r = submission_rules limits r lent m
 
   -- each rule's number is one of a submission's, and only 6, 7, 8, 9 and 11 name an element
-  all_numbered : (r : Checked) → numbered submission_numbers (rules r) ≡ true
+  all_numbered : (r : Result Action ℕ) → numbered submission_numbers (rules r) ≡ true
   unfolding submission_rules rules_for rules_of swap_rules numbered is_one_of
-  all_numbered (Fault code) = refl
-  all_numbered (Value a) = refl
+  all_numbered (Err code) = refl
+  all_numbered (Ok a) = refl
 
-  all_named : (r : Checked) → named_by naming_numbers (rules r) ≡ true
+  all_named : (r : Result Action ℕ) → named_by naming_numbers (rules r) ≡ true
   unfolding submission_rules rules_for rules_of swap_rules named_by is_one_of
-  all_named (Fault code) = refl
-  all_named (Value a) = refl
+  all_named (Err code) = refl
+  all_named (Ok a) = refl
 
   some_number : (found.0 ≡ 0 → ⊥) → is_one_of submission_numbers found.0 ≡ true
   unfolding verdict_on
@@ -70,31 +68,31 @@ module _ (limits : Limits) (lent : Lent) (m : Bytes) where
   -- ---- the element at fault
 
   -- without an action nothing from 7 on is rules
-  not_judged : (code : ℕ) (c : Check) → (first_broken (rules (Fault code))).0 ≡ number_of c → ⊥
+  not_judged : (code : ℕ) (c : Check) → (first_broken (rules (Err code))).0 ≡ number_of c → ⊥
   unfolding submission_rules rules_for unused
-  not_judged code Needed e = not_verdict _ (rules (Fault code)) (lit< tt) refl e
-  not_judged code Taken e = not_verdict _ (rules (Fault code)) (lit< tt) refl e
-  not_judged code Formed e = not_verdict _ (rules (Fault code)) (lit< tt) refl e
-  not_judged code Due e = not_verdict _ (rules (Fault code)) (lit< tt) refl e
+  not_judged code Needed e = not_verdict _ (rules (Err code)) (lit< tt) refl e
+  not_judged code Taken e = not_verdict _ (rules (Err code)) (lit< tt) refl e
+  not_judged code Formed e = not_verdict _ (rules (Err code)) (lit< tt) refl e
+  not_judged code Due e = not_verdict _ (rules (Err code)) (lit< tt) refl e
 
-  check_broken : (a : Action) (c : Check) (e : ℕ) → first_broken (rules (Value a)) ≡ (number_of c, e) → lowest (at_fault c a m) ≡ broken e
+  check_broken : (a : Action) (c : Check) (e : ℕ) → first_broken (rules (Ok a)) ≡ (number_of c, e) → lowest (at_fault c a m) ≡ broken e
   unfolding submission_rules rules_for rules_of swap_rules finding_of
-  check_broken a Needed e v = (broken_first (rules (Value a)) (number_of Needed) e (numbers_differ limits lent m (Value a)) (lit< tt) v).0
-  check_broken a Taken e v = (broken_first (rules (Value a)) (number_of Taken) e (numbers_differ limits lent m (Value a)) (lit< tt) v).0
-  check_broken a Formed e v = (broken_first (rules (Value a)) (number_of Formed) e (numbers_differ limits lent m (Value a)) (lit< tt) v).0
-  check_broken a Due e v = (broken_first (rules (Value a)) (number_of Due) e (numbers_differ limits lent m (Value a)) (lit< tt) v).0
+  check_broken a Needed e v = (broken_first (rules (Ok a)) (number_of Needed) e (numbers_differ limits lent m (Ok a)) (lit< tt) v).0
+  check_broken a Taken e v = (broken_first (rules (Ok a)) (number_of Taken) e (numbers_differ limits lent m (Ok a)) (lit< tt) v).0
+  check_broken a Formed e v = (broken_first (rules (Ok a)) (number_of Formed) e (numbers_differ limits lent m (Ok a)) (lit< tt) v).0
+  check_broken a Due e v = (broken_first (rules (Ok a)) (number_of Due) e (numbers_differ limits lent m (Ok a)) (lit< tt) v).0
 
-  names_lowest : (r : Checked) → action_in m ≡ r → (c : Check) → found.0 ≡ number_of c → NamesLowest c m found.1
+  names_lowest : (r : Result Action ℕ) → action_in m ≡ r → (c : Check) → found.0 ≡ number_of c → NamesLowest c m found.1
   unfolding verdict_on
-  names_lowest (Fault code) e c v = absurd (not_judged code c (ap (λ r. (first_broken (rules r)).0) (sym e) ∙ v))
-  names_lowest (Value a) e c v =
-      let is : first_broken (rules (Value a)) ≡ (number_of c, found.1) = ap (λ r. first_broken (rules r)) (sym e) ∙ ap (λ n. (n, found.1)) v in
+  names_lowest (Err code) e c v = absurd (not_judged code c (ap (λ r. (first_broken (rules r)).0) (sym e) ∙ v))
+  names_lowest (Ok a) e c v =
+      let is : first_broken (rules (Ok a)) ≡ (number_of c, found.1) = ap (λ r. first_broken (rules r)) (sym e) ∙ ap (λ n. (n, found.1)) v in
       record { action = a; reads = e; lowest = lowest_broken (at_fault c a m) found.1 (check_broken a c found.1 is) }
 
-  action_broken : (r : Checked) (e : ℕ) → first_broken (rules r) ≡ (action_wrong, e) → finding r ≡ broken e
+  action_broken : (r : Result Action ℕ) (e : ℕ) → first_broken (rules r) ≡ (action_wrong, e) → finding r ≡ broken e
   unfolding submission_rules rules_for rules_of swap_rules finding_of
-  action_broken (Fault code) e v = (broken_first (rules (Fault code)) action_wrong e (numbers_differ limits lent m (Fault code)) (lit< tt) v).0
-  action_broken (Value a) e v = (broken_first (rules (Value a)) action_wrong e (numbers_differ limits lent m (Value a)) (lit< tt) v).0
+  action_broken (Err code) e v = (broken_first (rules (Err code)) action_wrong e (numbers_differ limits lent m (Err code)) (lit< tt) v).0
+  action_broken (Ok a) e v = (broken_first (rules (Ok a)) action_wrong e (numbers_differ limits lent m (Ok a)) (lit< tt) v).0
 
   names_action : found.0 ≡ action_wrong → found.1 ≡ action_type
   unfolding verdict_on

@@ -1,4 +1,5 @@
 -- Demand 2. Assumes nothing.
+use Rattle.std.specs.Prelude.{Result, Ok}
 use Prim.Native.Nat.{ℕ, ◌+◌, ◌-◌, ◌^◌, ◌<◌, ◌≤◌}
 use mathlib.Core.Bool.{Bool, true, false, not, false≢true}
 use mathlib.Core.Path.{◌≡◌, refl, sym, ap, ap₂, ◌∙◌, subst}
@@ -19,8 +20,6 @@ use Rattle.values.specs.Run.{within}
 use Rattle.terms.specs.Terms.{terms_size}
 use Rattle.actions.specs.declared.Action.{Action}
 use Rattle.actions.specs.declared.Action.TheVariants.{Newt, Modi}
-use Rattle.actions.specs.declared.Checked.{Checked}
-use Rattle.actions.specs.declared.Checked.TheVariants.{Value}
 use Rattle.actions.specs.Actions.{is_full, is_new, repeats_time, next_status}
 use Rattle.actions.specs.Statuses.{live, ported, no_step}
 use Rattle.actions.proofs.KindLaws.{is_newt, modi_stays, old_if_repeats}
@@ -135,7 +134,7 @@ module _ (limits : Limits) (lent : Lent) (m : Bytes) where
         reads = c.reads;
         header = (has_place c).header;
         tape = tape_room c;
-        message = rw c.reads (none_broken (rules_for (Value a) limits.longest m) (message_passes c));
+        message = rw c.reads (none_broken (rules_for (Ok a) limits.longest m) (message_passes c));
         row = λ k. right_row l (swap_of m) k (passed-row c k);
         step = eqb-false _ _ (status_test c);
         time = λ k. same_true _ _ (not_not _ (both_false (repeats_time a) _ (time_test c) k)) ∙ known_time l (swap_of m) a (status_test c) k;
@@ -164,16 +163,16 @@ module _ (limits : Limits) (lent : Lent) (m : Bytes) where
     unfolding finds_spent
     identifier_found = not_where (line_due_in s.action l m) _ (λ k. ne_eqb _ _ (s.spare k))
 
-    message_right : AllPassed (rules_for (Value s.action) limits.longest m)
+    message_right : AllPassed (rules_for (Ok s.action) limits.longest m)
     message_right =
-        subst (λ (r : Checked). AllPassed (rules_for r limits.longest m)) s.reads
+        subst (λ (r : Result Action ℕ). AllPassed (rules_for r limits.longest m)) s.reads
         ((message.accepted_exactly limits.longest m).0 (ap (λ v. v.0) s.message))
 
-    front_passed : first_broken (submission_rules limits (Value s.action) lent m) ≡ first_broken (rules_for (Value s.action) limits.longest m ++ after_rules (Value s.action) l m)
+    front_passed : first_broken (submission_rules limits (Ok s.action) lent m) ≡ first_broken (rules_for (Ok s.action) limits.longest m ++ after_rules (Ok s.action) l m)
     unfolding submission_rules first_broken
     front_passed = rw (header_right_lem limits.largest l s.header, le-ltb (length lent.buffers.tape) line_size s.tape)
 
-    swap_passed : first_broken (after_rules (Value s.action) l m) ≡ (0, 0)
+    swap_passed : first_broken (after_rules (Ok s.action) l m) ≡ (0, 0)
     unfolding swap_rules first_broken
     swap_passed = rw (right_found, admitted, same_time, room_found, identifier_found)
 
@@ -182,7 +181,7 @@ module _ (limits : Limits) (lent : Lent) (m : Bytes) where
     all_passed_on =
         ap (λ r. first_broken (submission_rules limits r lent m)) s.reads
         ∙ front_passed
-        ∙ passed_then (rules_for (Value s.action) limits.longest m) (after_rules (Value s.action) l m) message_right
+        ∙ passed_then (rules_for (Ok s.action) limits.longest m) (after_rules (Ok s.action) l m) message_right
         ∙ swap_passed
 
     submission_accepts : (submitted limits lent m).verdict ≡ 0
@@ -205,7 +204,7 @@ quiet_answer {limits} {lent} {m} c small is due =
 pub quiet_modification : QuietModification
 quiet_modification limits small lent m reads passes same =
     let c : Admitted limits lent m = as_admitted limits lent m (ap (λ v. v.0) (none_broken _ passes)) in
-    let two : Value c.action ≡ Value Modi = sym c.reads ∙ reads in
+    let two : Ok c.action ≡ Ok Modi = sym c.reads ∙ reads in
     let is : c.action ≡ Modi = cc in
     quiet_answer c small is (((line_due_exactly c.action lent.ledger m).modification is).1 same)
 

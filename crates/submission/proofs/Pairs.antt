@@ -1,4 +1,5 @@
 -- Two histories whose premises hold publish messages that tell the same tape. Assumes nothing.
+use Rattle.std.specs.Prelude.{Result, Err, Ok}
 use Prim.Native.Nat.{ℕ, suc, ◌^◌, ◌<◌}
 use mathlib.Core.Bool.{Bool, true, false}
 use mathlib.Core.Path.{◌≡◌, refl, sym, ap, ap₂, ◌∙◌}
@@ -8,13 +9,12 @@ use native.Mathlib.Omega.{arith}
 use lib.ListN.{length}
 use lib.Dec.{eqb}
 use borrow.Author.Tests.{eqb-true}
+use Rattle.actions.specs.declared.Action.{Action}
 use Rattle.octets.specs.Bytes.{Bytes}
 use Rattle.octets.specs.Choice.{both}
 use Rattle.octets.specs.Same.{same_bytes}
 use Rattle.octets.proofs.ChoiceLaws.{both_first, both_second, same_test, choose_first, choose_same}
 use Rattle.octets.proofs.SameLaws.{same_true, same_refl}
-use Rattle.actions.specs.declared.Checked.{Checked}
-use Rattle.actions.specs.declared.Checked.TheVariants.{Fault, Value}
 use Rattle.actions.specs.Actions.{action_of, is_full}
 use Rattle.ledger.specs.declared.header.Caps.{Caps}
 use Rattle.ledger.specs.Layout.{u32}
@@ -104,10 +104,10 @@ same_earlier caps u v (e ∷ es) (f ∷ fs) p n =
 
 -- ---- one line
 
-line_shown : (r : Checked) (i p : ℕ) (m n terms : Bytes) → SameShown m n → line_by r i p m terms ≡ line_by r i p n terms
+line_shown : (r : Result Action ℕ) (i p : ℕ) (m n terms : Bytes) → SameShown m n → line_by r i p m terms ≡ line_by r i p n terms
 unfolding line
-line_shown (Fault code) i p m n terms s = refl
-line_shown (Value a) i p m n terms s = rw (s.0, s.1, s.2)
+line_shown (Err code) i p m n terms s = refl
+line_shown (Ok a) i p m n terms s = rw (s.0, s.1, s.2)
 
 same_terms : (caps : Caps) (m n : Bytes) (es fs : List Bytes) → Partners caps m n → Same caps (swap_of m) (swap_of n) es fs → published_terms caps es m ≡ published_terms caps fs n
 unfolding published_terms

@@ -1,4 +1,5 @@
 -- The tape is what the published messages tell. Assumes nothing.
+use Rattle.std.specs.Prelude.{Ok}
 use Prim.Native.Nat.{ℕ, suc, ◌^◌, ◌<◌, ◌≤◌}
 use mathlib.Core.Bool.{Bool, true, false}
 use mathlib.Core.Path.{◌≡◌, refl, ap, ◌∙◌, subst}
@@ -13,7 +14,6 @@ use Rattle.octets.specs.Same.{same_bytes}
 use Rattle.octets.proofs.ChoiceLaws.{both_last, both_none}
 use Rattle.octets.proofs.SameLaws.{same_true, same_apart}
 use Rattle.actions.specs.declared.Action.{Action}
-use Rattle.actions.specs.declared.Checked.TheVariants.{Value}
 use Rattle.actions.specs.Actions.{is_full, is_new}
 use Rattle.actions.proofs.KindLaws.{old_unless_full}
 use Rattle.ledger.specs.declared.header.Caps.{Caps}
@@ -44,7 +44,7 @@ new_line : (a : Action) (i p q : ℕ) (m terms : Bytes) → is_new a ≡ true �
 unfolding line
 new_line a i p q m terms e = rw e
 
-module _ {largest : ℕ} (small : largest < 256 ^ u32) {caps : Caps} {l m : Bytes} {earlier : List Bytes} (h : LedgerAgrees caps l earlier) {a : Action} (reads : action_in m ≡ Value a) (f : HasPlace largest l m a) where
+module _ {largest : ℕ} (small : largest < 256 ^ u32) {caps : Caps} {l m : Bytes} {earlier : List Bytes} (h : LedgerAgrees caps l earlier) {a : Action} (reads : action_in m ≡ Ok a) (f : HasPlace largest l m a) where
   terms_published : terms_for a l m ≡ published_terms caps earlier m
   unfolding terms_for published_terms
   terms_published = rw (reads, h.caps_are) (by (is_full a) refl)

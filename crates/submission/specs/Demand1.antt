@@ -1,12 +1,11 @@
 -- Demand 1 (specification, clause 12.1): any bytes in message, ledger or tape buffer get an answer; a refusal has its number, names the element where one is at fault, and changes no
 -- byte of ledger or tape buffer. That any bytes get an answer lies in the definitions: they are functions of lists of any length.
-use Rattle.std.specs.Prelude.{ℕ, true, ◌≡◌}
+use Rattle.std.specs.Prelude.{ℕ, true, ◌≡◌, Ok}
 use Rattle.octets.specs.Bytes.{Bytes}
 use Rattle.actions.specs.declared.Action.{Action}
-use Rattle.actions.specs.declared.Checked.TheVariants.{Value}
 use Rattle.actions.specs.Actions.{action_type}
 use Rattle.elements.specs.Codes.{uti}
-use Rattle.rules.specs.declared.checks.Check.{Check}
+use Rattle.rules.specs.Rules.{Check}
 use Rattle.rules.specs.Verdicts.{action_wrong, form_broken}
 use Rattle.rules.specs.Findings.{is_one_of, LowestAtFault}
 use Rattle.rules.specs.Rules.{at_fault, number_of}
@@ -21,7 +20,7 @@ use Rattle.submission.specs.Totals.{no_totals, asked_totals}
 -- 7, 8, 9 and 11 name the lowest element code at fault
 pub record NamesLowest (check : Check) (m : Bytes) (element : ℕ) : Type 0 where
   pub action : Action
-  pub reads : action_in m ≡ Value action
+  pub reads : action_in m ≡ Ok action
   pub lowest : LowestAtFault (at_fault check action m) element
 
 -- the element that a submission names: those four, 6 names 2; elsewhere the element is 0

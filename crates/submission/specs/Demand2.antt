@@ -1,5 +1,5 @@
 -- Demand 2 (specification, clause 12.2): each verdict, ledger row and tape line is the specified one; 0 where no rule is broken, else the first rule broken.
-use Rattle.std.specs.Prelude.{ℕ, ◌+◌, ◌-◌, ◌^◌, ◌<◌, ◌≤◌, true, false, ◌≡◌, ◌↔◌, [], ◌∷◌, map, length, get_or, drop, eqb}
+use Rattle.std.specs.Prelude.{ℕ, ◌+◌, ◌-◌, ◌^◌, ◌<◌, ◌≤◌, true, false, ◌≡◌, ◌↔◌, [], ◌∷◌, map, length, get_or, drop, eqb, Ok}
 use Rattle.octets.specs.Bytes.{Bytes}
 use Rattle.octets.specs.Choice.{choose}
 use Rattle.octets.specs.Part.{part}
@@ -7,7 +7,6 @@ use Rattle.octets.specs.Fields.{Placed}
 use Rattle.message.specs.Values.{value}
 use Rattle.actions.specs.declared.Action.{Action}
 use Rattle.actions.specs.declared.Action.TheVariants.{Modi, Prto}
-use Rattle.actions.specs.declared.Checked.TheVariants.{Value}
 use Rattle.actions.specs.Actions.{is_full, is_new, repeats_time, next_status}
 use Rattle.actions.specs.Statuses.{live, closed, errored, ported, no_step}
 use Rattle.elements.specs.Codes.{uti, execution_timestamp}
@@ -39,7 +38,7 @@ VerdictExactly =
 
 -- the rules of a message with an action have these numbers, in this order
 abbrev pub CheckingOrder : Type 0
-CheckingOrder = (limits : Limits) (a : Action) (lent : Lent) (m : Bytes) → map rule_number (submission_rules limits (Value a) lent m) ≡ submission_numbers
+CheckingOrder = (limits : Limits) (a : Action) (lent : Lent) (m : Bytes) → map rule_number (submission_rules limits (Ok a) lent m) ≡ submission_numbers
 
 -- a row that 14 lets pass
 pub record RightRow (l r : Bytes) : Type 0 where
@@ -52,7 +51,7 @@ pub record RightRow (l r : Bytes) : Type 0 where
 -- what the specification asks of a message that is accepted, in words: 3 and 4, the message alone, and 14 to 18
 pub record RulesAccept (limits : Limits) (lent : Lent) (m : Bytes) : Type 0 where
   pub action : Action
-  pub reads : action_in m ≡ Value action
+  pub reads : action_in m ≡ Ok action
   pub header : RightHeader limits.largest lent.ledger
   pub tape : line_size ≤ length lent.buffers.tape
   pub message : verdict limits.longest m ≡ (0, 0)
@@ -80,7 +79,7 @@ LineDueExactly = (a : Action) (l m : Bytes) → LineDue a l m
 abbrev pub QuietModificationUnder : Limits → Type 0
 QuietModificationUnder limits =
     (lent : Lent) (m : Bytes)
-    → action_in m ≡ Value Modi
+    → action_in m ≡ Ok Modi
     → AllPassed (admitting_rules limits (action_in m) lent m)
     → masked_terms (caps_in lent.ledger) m ≡ stored_terms (swap_row lent.ledger (swap_of m))
     → submitted limits lent m ≡ record { verdict = 0; element = 0; identifier = 0; lent = lent }
@@ -144,7 +143,7 @@ pub record TapeWritten (a : Action) (l t m t' : Bytes) : Type 0 where
 -- an accepted message
 pub record Written (lent : Lent) (m : Bytes) (s : Submitted) : Type 0 where
   pub action : Action
-  pub reads : action_in m ≡ Value action
+  pub reads : action_in m ≡ Ok action
   pub ledger : LedgerWritten action lent.ledger m s.lent.ledger
   pub tape : TapeWritten action lent.ledger lent.buffers.tape m s.lent.buffers.tape
   pub identifier : s.identifier ≡ choose (line_due_in action lent.ledger m) (next_identifier lent.ledger) 0

@@ -1,10 +1,8 @@
 -- Specification, clauses 7.8 and 12.3: histories, which are lists of calls on one ledger, and the tape.
-use Rattle.std.specs.Prelude.{ℕ, Bool, false, List, [], ◌∷◌, ◌++◌, take, eqb}
+use Rattle.std.specs.Prelude.{ℕ, Bool, false, List, [], ◌∷◌, ◌++◌, take, eqb, Err, Ok, Result}
 use Rattle.octets.specs.Bytes.{Bytes}
 use Rattle.octets.specs.Choice.{choose, both}
 use Rattle.actions.specs.declared.Action.{Action}
-use Rattle.actions.specs.declared.Checked.{Checked}
-use Rattle.actions.specs.declared.Checked.TheVariants.{Fault, Value}
 use Rattle.ledger.specs.Layout.{line_size}
 use Rattle.submission.specs.Opening.{Limits}
 use Rattle.submission.specs.Lent.{Buffers}
@@ -31,9 +29,9 @@ ledger_after_all limits l (c ∷ cs) = ledger_after_all limits (ledger_after lim
 -- ---- the tape
 
 -- the message has an action, and one of a kind
-abbrev pub of_kind : (Action → Bool) → Checked → Bool
-of_kind kind (Fault code) = false
-of_kind kind (Value a) = kind a
+abbrev pub of_kind : (Action → Bool) → Result Action ℕ → Bool
+of_kind kind (Err code) = false
+of_kind kind (Ok a) = kind a
 
 abbrev pub has_action : (Action → Bool) → Bytes → Bool
 has_action kind m = of_kind kind (action_in m)

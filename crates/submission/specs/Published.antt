@@ -1,10 +1,9 @@
 -- Specification, clause 12.3: the tape as a function of the published messages, those that were accepted and wrote a line, and of the caps alone.
-use Rattle.std.specs.Prelude.{ℕ, suc, ◌^◌, ◌<◌, ◌≡◌, List, [], ◌∷◌, ◌++◌, length}
+use Rattle.std.specs.Prelude.{ℕ, suc, ◌^◌, ◌<◌, ◌≡◌, List, [], ◌∷◌, ◌++◌, length, Err, Ok, Result}
 use Rattle.octets.specs.Bytes.{Bytes}
 use Rattle.octets.specs.Choice.{choose, both}
 use Rattle.octets.specs.Same.{same_bytes}
-use Rattle.actions.specs.declared.Checked.{Checked}
-use Rattle.actions.specs.declared.Checked.TheVariants.{Fault, Value}
+use Rattle.actions.specs.declared.Action.{Action}
 use Rattle.actions.specs.Actions.{is_full}
 use Rattle.ledger.specs.declared.header.Caps.{Caps}
 use Rattle.ledger.specs.Layout.{u32}
@@ -36,9 +35,9 @@ last_masked caps u (e ∷ earlier) =
 unfoldable pub published_terms : Caps → List Bytes → Bytes → Bytes
 published_terms caps earlier m = choose (has_action is_full m) (masked_terms caps m) (last_masked caps (swap_of m) earlier)
 
-abbrev pub line_by : Checked → ℕ → ℕ → Bytes → Bytes → Bytes
-line_by (Fault code) identifier previous m terms = []
-line_by (Value a) identifier previous m terms = line a identifier previous m terms
+abbrev pub line_by : Result Action ℕ → ℕ → ℕ → Bytes → Bytes → Bytes
+line_by (Err code) identifier previous m terms = []
+line_by (Ok a) identifier previous m terms = line a identifier previous m terms
 
 -- the line of a message that is published after the earlier ones
 unfoldable pub published_line : Caps → List Bytes → Bytes → Bytes

@@ -1,5 +1,5 @@
 -- Specification, sections 7 to 9 and clause 10.5: submitting one message.
-use Rattle.std.specs.Prelude.{ℕ, ◌-◌, Bool, not, List, [], ◌∷◌, ◌++◌, length, eqb, leb, ltb}
+use Rattle.std.specs.Prelude.{ℕ, ◌-◌, Bool, not, List, [], ◌∷◌, ◌++◌, length, eqb, leb, ltb, Err, Ok, Result}
 use Rattle.octets.specs.Bytes.{Bytes}
 use Rattle.octets.specs.Choice.{choose, both}
 use Rattle.octets.specs.Part.{splice}
@@ -7,8 +7,6 @@ use Rattle.octets.specs.Same.{same_bytes}
 use Rattle.values.specs.Run.{within}
 use Rattle.message.specs.Values.{value}
 use Rattle.actions.specs.declared.Action.{Action}
-use Rattle.actions.specs.declared.Checked.{Checked}
-use Rattle.actions.specs.declared.Checked.TheVariants.{Fault, Value}
 use Rattle.actions.specs.Actions.{is_full, is_new, writes_line, needs_change, repeats_time, next_status}
 use Rattle.actions.specs.Statuses.{live, ported, no_step}
 use Rattle.elements.specs.Codes.{uti, execution_timestamp, asset_class}
@@ -104,12 +102,12 @@ identifier_rule a l m = test identifiers_spent (finds_spent (line_due_in a l m) 
 -- ---- the rules of a submission in checking order
 
 -- where 6 is broken there is no action, and nothing is judged after it
-abbrev pub after_rules : Checked → Bytes → Bytes → List Rule
-after_rules (Fault code) l m = []
-after_rules (Value a) l m = rules_in a l m ++ (identifier_rule a l m ∷ [])
+abbrev pub after_rules : Result Action ℕ → Bytes → Bytes → List Rule
+after_rules (Err code) l m = []
+after_rules (Ok a) l m = rules_in a l m ++ (identifier_rule a l m ∷ [])
 
 -- 3 and 4, then the rules of the message alone, then 14 to 18
-unfoldable pub submission_rules : Limits → Checked → Lent → Bytes → List Rule
+unfoldable pub submission_rules : Limits → Result Action ℕ → Lent → Bytes → List Rule
 submission_rules limits action lent m =
     test ledger_wrong (not (header_right limits.largest lent.ledger))
     ∷ test tape_short (ltb (length lent.buffers.tape) line_size)
@@ -119,7 +117,7 @@ abbrev pub rules_on : Limits → Lent → Bytes → List Rule
 rules_on limits lent m = submission_rules limits (action_in m) lent m
 
 -- every rule but 18, which stands behind them
-abbrev pub admitting_rules : Limits → Checked → Lent → Bytes → List Rule
+abbrev pub admitting_rules : Limits → Result Action ℕ → Lent → Bytes → List Rule
 admitting_rules limits action lent m = before_rule identifiers_spent (submission_rules limits action lent m)
 
 -- verdict and element
@@ -178,9 +176,9 @@ accepted a lent m =
 abbrev pub refused : ℕ × ℕ → Lent → Submitted
 refused v lent = record { verdict = v.0; element = v.1; identifier = 0; lent = lent }
 
-abbrev pub concluded : ℕ × ℕ → Checked → Lent → Bytes → Submitted
-concluded v (Fault code) lent m = refused v lent
-concluded v (Value a) lent m = choose (eqb v.0 0) (accepted a lent m) (refused v lent)
+abbrev pub concluded : ℕ × ℕ → Result Action ℕ → Lent → Bytes → Submitted
+concluded v (Err code) lent m = refused v lent
+concluded v (Ok a) lent m = choose (eqb v.0 0) (accepted a lent m) (refused v lent)
 
 unfoldable pub submitted : Limits → Lent → Bytes → Submitted
 submitted limits lent m = concluded (verdict_on limits lent m) (action_in m) lent m

@@ -1,22 +1,56 @@
 -- Laws of specs/Run.antt: what classes and runs tell of each byte. Assumes nothing.
 use Prim.Native.Nat.{ℕ, zero, suc, ◌+◌, ◌-◌, ◌<◌, ◌≤◌}
-use Prim.Native.Char.{code}
-use mathlib.Core.Bool.{Bool, true, false}
+use mathlib.Core.Bool.{Bool, true, false, ◌&&◌, false≢true}
+use mathlib.Core.List.{[], ◌∷◌}
+use Rattle.std.specs.List.{list_all, fold}
 use mathlib.Core.Path.{◌≡◌, refl, sym, ap, ◌∙◌}
 use native.Mathlib.Nat.{zero-add, add-zero}
 use native.Mathlib.Omega.{arith}
-use borrow.Author.Tests.{lt-leb, leb-true, ltb-true, ltb-false}
+use borrow.Author.Tests.{leb-true, ltb-true, ltb-false}
 use lib.Dec.{leb, ltb}
 use lib.ListN.{length, get_or, take, drop, length-take, length-drop}
 use lib.Seq.{get_or-take, get_or-drop}
 use Rattle.octets.specs.Bytes.{Bytes}
-use Rattle.octets.specs.Choice.{either}
-use Rattle.octets.specs.Search.{all_from}
-use Rattle.octets.proofs.ChoiceLaws.{both_first, both_second, both_none}
-use Rattle.octets.proofs.SearchLaws.{all_at}
-use Rattle.values.specs.Run.{in_class, each_of, run_of}
+use Rattle.octets.specs.Choice.{both, either}
+use Rattle.octets.specs.Search.{all, all_from}
+use Rattle.octets.proofs.ChoiceLaws.{both_first, both_second}
+use Rattle.octets.proofs.SearchLaws.{all_at, all_shift}
+use Rattle.values.specs.Run.{within, in_class, each_of, run_of}
 use Rattle.values.specs.declared.run.Class.{Class}
 use Rattle.values.specs.declared.run.Class.TheVariants.{Digit, Capital, CapitalOrDigit}
+
+-- a test of the byte at each place, as the test of each byte
+pub all_bytes : (f : ℕ → Bool) (v : Bytes) → all (λ k. f (get_or v k 0)) (length v) ≡ list_all f v
+unfolding all_from
+all_bytes f [] = refl
+all_bytes f (b ∷ v) = by (f b) (all_shift (λ k. f (get_or (b ∷ v) k 0)) 0 (length v) ∙ all_bytes f v)
+  where
+    by : (t : Bool) → all_from (λ k. f (get_or (b ∷ v) k 0)) 1 (length v) ≡ list_all f v → both t (all_from (λ k. f (get_or (b ∷ v) k 0)) 1 (length v)) ≡ (t && list_all f v)
+    by true e = e
+    by false e = refl
+
+fold_from : (f : ℕ → Bool) (v : Bytes) (t : Bool) → fold (λ t b. t && f b) t v ≡ (t && list_all f v)
+fold_from f [] true = refl
+fold_from f [] false = refl
+fold_from f (b ∷ v) true = fold_from f v (f b)
+fold_from f (b ∷ v) false = fold_from f v false
+
+pub fold_bytes : (f : ℕ → Bool) (v : Bytes) → fold (λ t b. t && f b) true v ≡ list_all f v
+fold_bytes f v = fold_from f v true
+
+-- a run, by its length and by each byte of it
+pub run_where : (least most : ℕ) (class : Class) (v : Bytes) → within least most (length v) ≡ true → list_all (in_class class) v ≡ run_of least most class v
+unfolding run_of
+run_where least most class v e = rw (both_first (leb least (length v)) _ e, both_second (leb least (length v)) _ e) (sym (all_bytes (in_class class) v))
+
+pub run_not : (least most : ℕ) (class : Class) (v : Bytes) → within least most (length v) ≡ false → false ≡ run_of least most class v
+unfolding run_of
+run_not least most class v e = by (leb least (length v)) (leb (length v) most) e
+  where
+    by : (s t : Bool) → both s t ≡ false → false ≡ both s (both t (each_of class v))
+    by true true f = absurd (false≢true (sym f))
+    by true false f = refl
+    by false t f = refl
 
 -- what a test of each byte tells of one
 pub each_at : (class : Class) (v : Bytes) (k : ℕ) → k < length v → each_of class v ≡ true → in_class class (get_or v k 0) ≡ true
@@ -40,22 +74,9 @@ module _ (least most : ℕ) (class : Class) (v : Bytes) (e : run_of least most c
   run_at k h = each_at class v k h run_each
 
 -- a test of one or the other
-either_first : (a b : Bool) → b ≡ false → either a b ≡ true → a ≡ true
-either_first true b f e = refl
-either_first false b f e = sym f ∙ e
-
 either_second : (a b : Bool) → b ≡ true → either a b ≡ true
 either_second true b e = refl
 either_second false b e = e
-
--- a capital or digit below A is a digit, any other a capital
-pub digit_below : (b : ℕ) → b < code "A" → in_class CapitalOrDigit b ≡ true → code "0" ≤ b
-digit_below b l e = leb-true (code "0") b (both_first (leb (code "0") b) _ (rw (lt-leb (code "A") b l) at e))
-
-pub capital_from : (b : ℕ) → code "A" ≤ b → in_class CapitalOrDigit b ≡ true → in_class Capital b ≡ true
-capital_from b l e =
-    let above : leb b (code "9") ≡ false = lt-leb b (code "9") (omega arith) in
-    either_first (in_class Capital b) (in_class Digit b) (both_none (leb (code "0") b) _ above) e
 
 -- a test of a range passes where it passes at each number
 all_from_lem : (f : ℕ → Bool) (k d : ℕ) → ((i : ℕ) → i < d → f (k + i) ≡ true) → all_from f k d ≡ true

@@ -12,65 +12,54 @@ pub fn is_code(v: &[u8], code: &[u8; 4]) -> bool
     same(v, code)
 }
 
+#[tactic(auto, unfolding(octets::specs::Text::text, crate::specs::Code::is_true))]
 pub fn is_true(v: &[u8]) -> bool
     ensures { result ≡ is_true v.now }
 {
-    if same(v, b"True") {
-        return true;
-    }
-    same(v, b"true")
+    same(v, b"True") || same(v, b"true")
 }
 
+#[tactic(auto, unfolding(octets::specs::Text::text, crate::specs::Code::is_false))]
 fn is_false(v: &[u8]) -> bool
     ensures { result ≡ is_false v.now }
 {
-    if same(v, b"False") {
-        return true;
-    }
-    same(v, b"false")
+    same(v, b"False") || same(v, b"false")
 }
 
+#[tactic(auto, unfolding(crate::specs::Code::is_truth))]
 pub fn is_truth(v: &[u8]) -> bool
     ensures { result ≡ is_truth v.now }
 {
-    if is_true(v) {
-        return true;
-    }
-    is_false(v)
+    is_true(v) || is_false(v)
 }
 
 pub fn is_cleared(v: &[u8]) -> bool
     ensures { result ≡ is_cleared v.now }
 {
-    one_of(v, b"YNI", 1, 3)
+    one_of(v, &[*b"Y", *b"N", *b"I"])
 }
 
+#[tactic(auto, unfolding(octets::specs::Text::text, crate::specs::Code::is_allocation))]
 pub fn is_allocation(v: &[u8]) -> bool
     ensures { result ≡ is_allocation v.now }
 {
-    if is_code(v, b"POST") {
-        return true;
-    }
-    if is_code(v, b"PREA") {
-        return true;
-    }
-    is_code(v, b"UNAL")
+    is_code(v, b"POST") || is_code(v, b"PREA") || is_code(v, b"UNAL")
 }
 
 pub fn is_price_notation(v: &[u8]) -> bool
     ensures { result ≡ is_price_notation v.now }
 {
-    one_of(v, b"13", 1, 2)
+    one_of(v, &[*b"1", *b"3"])
 }
 
 pub fn is_spread_notation(v: &[u8]) -> bool
     ensures { result ≡ is_spread_notation v.now }
 {
-    one_of(v, b"134", 1, 3)
+    one_of(v, &[*b"1", *b"3", *b"4"])
 }
 
 pub fn is_asset_class(v: &[u8]) -> bool
     ensures { result ≡ is_asset_class v.now }
 {
-    one_of(v, b"CRIRFXEQCO", 2, 5)
+    one_of(v, &[*b"CR", *b"IR", *b"FX", *b"EQ", *b"CO"])
 }

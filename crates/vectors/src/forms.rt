@@ -1,50 +1,28 @@
-// The forms of values, by their place in the list of words.
-use crate::hex;
+// The forms of values, by their words.
 use repository::LONGEST_MESSAGE;
-use std::io;
-use std::io::Write;
 
-pub const COUNT: usize = 18;
-
-// The place of a word among those of the forms, or their number.
-pub fn place(word: &[u8]) -> usize {
-    crate::word_place(
-        word,
-        b"uti event package currency location truth cleared allocation notation spread-notation class lei price notional date time action layout",
-    )
-}
-
-pub fn answer(out: &mut impl Write, place: usize, v: &[u8]) -> io::Result<()> {
-    hex::say_test(out, has_form(place, v))
-}
-
-fn has_form(place: usize, v: &[u8]) -> bool {
-    match place {
-        0 => values::is_uti(v),
-        1 => values::is_event(v),
-        2 => values::is_package_identifier(v),
-        3 => iso::is_currency(v),
-        4 => iso::is_location(v),
-        5 => values::is_truth(v),
-        6 => values::is_cleared(v),
-        7 => values::is_allocation(v),
-        8 => values::is_price_notation(v),
-        9 => values::is_spread_notation(v),
-        10 => values::is_asset_class(v),
-        11 => values::is_lei(v),
-        12 => numbers::is_price(v),
-        13 => numbers::is_notional(v),
-        14 => dates::is_date(v),
-        15 => dates::is_time(v),
-        16 => is_action(v),
-        _ => elements::has_layout(v, LONGEST_MESSAGE),
-    }
-}
-
-fn is_action(v: &[u8]) -> bool {
-    let read = actions::read_action(v);
-    if let actions::Checked::Value(_) = read {
-        return true;
-    }
-    false
+// Whether a value has the form that a word names, where it names one.
+pub fn has_form(word: &[u8], v: &[u8]) -> Option<bool> {
+    let is_right = match word {
+        b"uti" => values::is_uti(v),
+        b"event" => values::is_event(v),
+        b"package" => values::is_package_identifier(v),
+        b"currency" => iso::is_currency(v),
+        b"location" => iso::is_location(v),
+        b"truth" => values::is_truth(v),
+        b"cleared" => values::is_cleared(v),
+        b"allocation" => values::is_allocation(v),
+        b"notation" => values::is_price_notation(v),
+        b"spread-notation" => values::is_spread_notation(v),
+        b"class" => values::is_asset_class(v),
+        b"lei" => values::is_lei(v),
+        b"price" => numbers::is_price(v),
+        b"notional" => numbers::is_notional(v),
+        b"date" => dates::is_date(v),
+        b"time" => dates::is_time(v),
+        b"action" => actions::read_action(v).is_ok(),
+        b"layout" => elements::has_layout(v, LONGEST_MESSAGE),
+        _ => return None,
+    };
+    Some(is_right)
 }
