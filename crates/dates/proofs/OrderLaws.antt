@@ -1,10 +1,10 @@
--- Laws of `before`: it is the order of std, and that of time; and what a pattern tells of each pair of bytes. Assumes nothing.
+-- Laws of `before`: it is the order of std, how place i decides it, and that of time; and what a pattern tells of each pair of bytes. Assumes nothing.
 use Prim.Native.Nat.{ℕ, ◌+◌, ◌-◌, ◌*◌, ◌<◌, ◌≤◌}
 use Prim.Native.Char.{code}
 use mathlib.Core.Bool.{Bool, true, false, ◌&&◌, false≢true}
 use mathlib.Core.Path.{◌≡◌, refl, sym, ap, ◌∙◌}
 use mathlib.Core.List.{[], ◌∷◌}
-use lib.ListN.{length, get_or}
+use lib.ListN.{length, get_or, drop, drop_of_length-le}
 use lib.Dec.{ltb, leb, eqb}
 use borrow.Author.Tests.{eq-eqb, ne_eqb, lt-ltb, le-ltb, ltb-true, ltb-false, eqb-true, eqb-false, leb-true}
 use native.Mathlib.Omega.{arith}
@@ -21,12 +21,42 @@ use Rattle.octets.proofs.ChoiceLaws.{both_first, both_second}
 use Rattle.values.specs.Run.{in_class}
 use Rattle.values.specs.declared.run.Class.TheVariants.{Digit}
 use Rattle.octets.proofs.SearchLaws.{all_shift}
+use Rattle.octets.proofs.WriteLaws.{drop_next}
 use Rattle.dates.specs.Dates.{fits_byte, fits_at, fits_pattern, date_pattern, is_date, time_pattern, is_time, before, number, DateOrder, TimeOrder}
 
 -- std's order of two texts is `before`
 pub less_before : (a b : Bytes) (r : Bool) → r ≡ is_some_and is_lt (slice_partial_cmp (λ x y. Some (nat_cmp x y)) a b) → r ≡ before a b
 unfolding before
 less_before = same_from_slice_cmp_tested nat_cmp is_lt before refl (λ _ _. refl) (λ _ _. refl) (λ x y a b o h. grind (arith, nat_tests))
+
+-- nothing is before what has no bytes left
+pub before_none : (a : Bytes) → before a [] ≡ false
+unfolding before
+before_none [] = refl
+before_none (x ∷ a) = refl
+
+module _ (a b : Bytes) (i : ℕ) (h : i < length b) where
+  -- a has no byte left, b has one
+  pub before_short : length a ≤ i → before (drop i a) (drop i b) ≡ true
+  unfolding before
+  before_short l = rw (drop_of_length-le a {i = i} l, drop_next b i h)
+
+  -- equal bytes: the rest decides
+  pub before_more : i < length a → get_or a i 0 ≡ get_or b i 0 → before (drop i a) (drop i b) ≡ before (drop (i + 1) a) (drop (i + 1) b)
+  unfolding before
+  before_more l e =
+      let ge : get_or b i 0 ≤ get_or a i 0 = omega arith in
+      let same : ltb (get_or a i 0) (get_or b i 0) ≡ false = le-ltb _ _ ge in
+      rw (drop_next a i l, drop_next b i h, same, eq-eqb _ _ e)
+
+  -- other bytes decide
+  pub before_here : i < length a → (get_or a i 0 ≡ get_or b i 0 → ⊥) → before (drop i a) (drop i b) ≡ ltb (get_or a i 0) (get_or b i 0)
+  unfolding before
+  before_here l ne = rw (drop_next a i l, drop_next b i h, ne_eqb _ _ ne) (by (ltb (get_or a i 0) (get_or b i 0)))
+    where
+      by : (t : Bool) → either t false ≡ t
+      by true = refl
+      by false = refl
 
 -- ---- the order of bytes is that of time: two values of one pattern compare as the numbers of their digits do
 

@@ -146,6 +146,13 @@ number_three (a ∷ b ∷ []) l = absurd (omega arith)
 number_three (a ∷ b ∷ c ∷ []) l = omega arith
 number_three (a ∷ b ∷ c ∷ d ∷ v) l = absurd (omega arith)
 
+-- ---- a value whose bytes were read one by one
+
+-- the bytes u are those of v from k on
+abbrev pub ReadFrom : ℕ → Bytes → Bytes → Type 0
+ReadFrom k v [] = Unit {0}
+ReadFrom k v (x ∷ u) = (x ≡ get_or v k 0) × ReadFrom (suc k) v u
+
 -- ---- a number is the first of a list or one of the others
 
 first_or_other : (k n : ℕ) (ks : List ℕ) → OneOf (k ∷ ks) n → (n ≡ k) ⊎ OneOf ks n

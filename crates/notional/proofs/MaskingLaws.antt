@@ -1,9 +1,9 @@
 -- Laws of specs/Masking.antt, and its examples. Assumes nothing.
-use Prim.Native.Nat.{ℕ, ◌*◌, ◌<◌, ◌≤◌}
+use Prim.Native.Nat.{ℕ, ◌+◌, ◌*◌, ◌<◌, ◌≤◌, min}
 use mathlib.Core.Bool.{Bool, true, false}
-use mathlib.Core.Path.{◌≡◌, refl}
+use mathlib.Core.Path.{◌≡◌, refl, sym}
 use native.Mathlib.Omega.{arith}
-use lib.Dec.{leb}
+use lib.Dec.{ltb, leb}
 use borrow.Author.Tests.{lt-ltb, le-ltb, ltb-true, ltb-false, leb-true, eqb-true}
 use Rattle.octets.specs.Search.{first_from}
 use Rattle.octets.specs.Text.{text}
@@ -43,6 +43,22 @@ module _ (cap a : ℕ) where
   pub shown_under : over cap a ≡ false → shown cap a ≡ rounded a
   unfolding shown
   shown_under e = rw e
+
+-- an amount of as many whole units as the cap
+pub over_at_cap : (cap f : ℕ) → ltb 0 f ≡ over cap (cap * unit + f)
+over_at_cap cap f = go (ltb 0 f) refl
+  where
+    go : (t : Bool) → ltb 0 f ≡ t → t ≡ over cap (cap * unit + f)
+    go true e = sym (over_yes cap (cap * unit + f) (omega (arith, ltb-true 0 f e)))
+    go false e = sym (over_not cap (cap * unit + f) (omega (arith, ltb-false 0 f e)))
+
+-- whole units that stop growing just above the largest cap are above every cap where the exact ones are
+pub over_saturated : (cap w f : ℕ) → cap ≤ largest_cap → f < unit → over cap (min w (largest_cap + 1) * unit + f) ≡ over cap (w * unit + f)
+over_saturated cap w f h l = go (over cap (w * unit + f)) refl
+  where
+    go : (t : Bool) → over cap (w * unit + f) ≡ t → over cap (min w (largest_cap + 1) * unit + f) ≡ t
+    go true e = over_yes cap _ (omega (arith, over_lt cap (w * unit + f) e))
+    go false e = over_not cap _ (omega (arith, over_le cap (w * unit + f) e))
 
 -- ---- what is shown under a cap
 

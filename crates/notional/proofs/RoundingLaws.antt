@@ -5,7 +5,7 @@ use mathlib.Core.List.{List, [], ◌∷◌}
 use mathlib.Core.Logic.{◌⊎◌, inl, inr}
 use mathlib.Core.Path.{◌≡◌, refl, sym, ap, ap₂, ◌∙◌}
 use native.Mathlib.Omega.{arith}
-use native.Mathlib.Nat.{div-div-eq-div-mul, mul-div-mul_left, div-mul-le_self, lt-div-mul-add, div-add-mod', div-eq_of_lt-le, le-div_iff_mul-le, mul-mod_left, mul-le-mul_right, mul_assoc, mul_left_comm, add-mul, le_trans}
+use native.Mathlib.Nat.{div-div-eq-div-mul, mul-div-mul_left, div-mul-le_self, lt-div-mul-add, div-add-mod', div-eq_of_lt-le, le-div_iff_mul-le, mul-mod_left, mul-le-mul_left, mul-le-mul_right, mul_assoc, mul_left_comm, add-mul, le_trans}
 use lib.Dec.{ltb, leb, eqb}
 use borrow.Author.Tests.{ltb-true, ltb-false, leb-true, eqb-true}
 use Rattle.octets.specs.Choice.{both}
@@ -17,7 +17,7 @@ use Rattle.notional.proofs.BandLaws.{step_here, step_after}
 
 -- ---- rounding by halves of a unit: one law for every step
 
-abbrev half_unit : ℕ
+abbrev pub half_unit : ℕ
 half_unit = 50_000
 
 pub nearest_by_halves : (s w f : ℕ) → (2 * w + f / half_unit + s) / (2 * s) * s ≡ nearest s (w * unit + f)
@@ -33,6 +33,9 @@ nearest_by_halves s w f =
     ∙ sym (mul-div-mul_left x (half_unit * (2 * s)) (omega arith))
     ∙ ap₂ (λ (m k : ℕ). m / k) twice steps
     )
+
+pub half_back : (x s : ℕ) → x / (2 * s) * s ≤ x
+half_back x s = le_trans (mul-le-mul_left (x / (2 * s)) (omega arith)) (div-mul-le_self x (2 * s))
 
 -- ---- the nearest multiple of one step
 

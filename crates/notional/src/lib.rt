@@ -121,13 +121,12 @@ impl Exact {
         n.max(LEAST_SHOWN)
     }
 
-    // Whether the exact amount is above the cap.
+    // Whether the exact amount is above the cap, which may be larger than an Exact holds.
     #[tactic(auto, unfolding(crate::specs::Masking::over))]
     fn is_over(self, cap: u64) -> bool
-        requires { cap ≤ largest_cap }
         ensures { result ≡ over cap (self.whole * unit + self.fraction) }
     {
-        Exact::of_cap(cap) < self
+        (cap, 0) < (self.whole, self.fraction)
     }
 }
 

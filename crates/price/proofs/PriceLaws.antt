@@ -5,8 +5,8 @@ use mathlib.Core.Bool.{Bool, true, false}
 use mathlib.Core.List.{[], ◌∷◌, ◌++◌, append_assoc, reverse, reverse-cons, reverse-append, reverse-reverse}
 use mathlib.Core.Path.{◌≡◌, refl, sym, ap, ◌∙◌}
 use native.Mathlib.Omega.{arith}
-use borrow.Author.Tests.{ne_eqb}
-use lib.ListN.{length, get_or, take, length-append, length-reverse}
+use borrow.Author.Tests.{eqb-true, ne_eqb}
+use lib.ListN.{length, get_or, take, drop, length-append, length-reverse}
 use lib.Seq.{take-suc, take-length}
 use lib.Dec.{eqb}
 use Rattle.octets.specs.Bytes.{Bytes}
@@ -14,13 +14,19 @@ use Rattle.octets.specs.Choice.{choose, both}
 use Rattle.octets.specs.Search.{first_from}
 use Rattle.octets.specs.Text.{text}
 use Rattle.octets.specs.Same.{same_bytes}
-use Rattle.numbers.specs.Numbers.{price_digits, price_decimals, point_in, whole_of, decimals_of, unsigned_of, is_price}
+use Rattle.octets.proofs.ChoiceLaws.{both_first}
+use Rattle.octets.proofs.WriteLaws.{drop_next}
+use Rattle.numbers.specs.Numbers.{price_digits, price_decimals, point_in, whole_of, decimals_of, has_minus, unsigned_of, is_price}
 use Rattle.numbers.proofs.NumbersLaws.{whole_some, digits_most}
 use Rattle.price.specs.Price.{drop_zeros, trim_zeros, empty, shown_whole, shown_decimals, shown_unsigned, is_zero, shows_minus, shown_sign, shown_price}
 use Rattle.price.specs.Examples.{all_shown, PricesShown}
 use Rattle.price.specs.Laws.{PriceFits, PriceLaws}
 
--- ---- a turn of the loop that comes from the end
+-- ---- a turn of the loop at i, and of the one that comes from the end
+
+pub drop_turn : (w : Bytes) (i : ℕ) → i < length w → drop_zeros (drop i w) ≡ choose (eqb (get_or w i 0) (code "0")) (drop_zeros (drop (i + 1) w)) (drop i w)
+unfolding drop_zeros
+drop_turn w i h = rw (drop_next w i h)
 
 trim_snoc : (xs : Bytes) (b : ℕ) → trim_zeros (xs ++ (b ∷ [])) ≡ choose (eqb b (code "0")) (trim_zeros xs) (xs ++ (b ∷ []))
 unfolding trim_zeros drop_zeros
@@ -69,6 +75,15 @@ unfolding is_zero shown_unsigned shown_whole shown_decimals
 zero_left v = shown_zero (drop_zeros (whole_of (unsigned_of v))) (trim_zeros (decimals_of (unsigned_of v))) (first_left (whole_of (unsigned_of v)))
 
 -- ---- the pieces
+
+first_of : (v : Bytes) → has_minus v ≡ true → take 1 v ≡ text "-"
+unfolding text
+first_of [] e = cc
+first_of (b ∷ bs) e = ap (λ (k : ℕ). k ∷ []) (eqb-true b (code "-") e)
+
+pub minus_first : (v : Bytes) → shows_minus v ≡ true → take 1 v ≡ text "-"
+unfolding shows_minus
+minus_first v e = first_of v (both_first (has_minus v) _ e)
 
 pub shown_built : (v s u w d : Bytes) → s ≡ shown_sign v → u ≡ unsigned_of v → w ≡ whole_of u → d ≡ decimals_of u → (s ++ shown_whole w) ++ shown_decimals d ≡ shown_price v
 unfolding shown_price shown_unsigned
