@@ -7,7 +7,7 @@ use Rattle.rules.specs.Verdicts.{action_wrong, element_missing, element_not_take
 use Rattle.rules.specs.Findings.{first_broken, finding_of, from_rule}
 use Rattle.rules.specs.Rules.{action_in, rules_of, judged_from}
 use Rattle.rules.proofs.FindingLaws.{after_rule}
-use Rattle.rules.proofs.JudgeLaws.{action_stops, action_on, test_stops, test_on, check_stops, check_on}
+use Rattle.rules.proofs.JudgeLaws.{action_stops, action_on, test_stops, test_on, refusal_stops, check_on}
 use Rattle.rules.proofs.judge_laid.Goals as goal
 use Rattle.rules.proofs.judge_laid.Goals.{In_ok-action, In_ok-action-2, In_ok-action-3, In_ok-action-4, In_ok-action-5, Else-is_not_a_pair, Else-has_both_quotes, Else-has_long_price}
 
@@ -52,21 +52,21 @@ pub returns-in_err-action-2 : goal.returns-in_err-action-2
 unfolding rules_of finding_of
 returns-in_err-action-2 c =
     let p = goal.at.returns-in_err-action-2 c in
-    check_stops element_missing _ _ _ _ c.lowest_missing.ensures _ _ ElementMissing (λ e. refl) refl c.map_err-2.ensures.cases c.in_err-action-2.was c.from_residual-in_err-action-2.ensures
+    refusal_stops element_missing _ _ _ _ c.lowest_missing.ensures _ _ ElementMissing (λ e. refl) refl c.map_err-2.ensures.cases c.in_err-action-2.was c.from_residual-in_err-action-2.ensures
     ∙ action p.In_ok-action
 
 pub returns-in_err-action-3 : goal.returns-in_err-action-3
 unfolding rules_of finding_of
 returns-in_err-action-3 c =
     let p = goal.at.returns-in_err-action-3 c in
-    check_stops element_not_taken _ _ _ _ c.lowest_not_taken.ensures _ _ ElementNotTaken (λ e. refl) refl c.map_err-3.ensures.cases c.in_err-action-3.was c.from_residual-in_err-action-3.ensures
+    refusal_stops element_not_taken _ _ _ _ c.lowest_not_taken.ensures _ _ ElementNotTaken (λ e. refl) refl c.map_err-3.ensures.cases c.in_err-action-3.was c.from_residual-in_err-action-3.ensures
     ∙ needed p.In_ok-action-2 ∙ action p.In_ok-action
 
 pub returns-in_err-action-4 : goal.returns-in_err-action-4
 unfolding rules_of finding_of
 returns-in_err-action-4 c =
     let p = goal.at.returns-in_err-action-4 c in
-    check_stops form_broken _ _ _ _ c.lowest_broken.ensures _ _ FormBroken (λ e. refl) refl c.map_err-4.ensures.cases c.in_err-action-4.was c.from_residual-in_err-action-4.ensures
+    refusal_stops form_broken _ _ _ _ c.lowest_broken.ensures _ _ FormBroken (λ e. refl) refl c.map_err-4.ensures.cases c.in_err-action-4.was c.from_residual-in_err-action-4.ensures
     ∙ taken p.In_ok-action-3 ∙ needed p.In_ok-action-2 ∙ action p.In_ok-action
 
 pub returns-then-is_not_a_pair : goal.returns-then-is_not_a_pair
@@ -80,7 +80,7 @@ pub returns-in_err-action-5 : goal.returns-in_err-action-5
 unfolding rules_of finding_of
 returns-in_err-action-5 c =
     let p = goal.at.returns-in_err-action-5 c in
-    check_stops conditional_missing _ _ _ _ c.lowest_due.ensures _ _ ConditionalMissing (λ e. refl) refl c.map_err-5.ensures.cases c.in_err-action-5.was c.from_residual-in_err-action-5.ensures
+    refusal_stops conditional_missing _ _ _ _ c.lowest_due.ensures _ _ ConditionalMissing (λ e. refl) refl c.map_err-5.ensures.cases c.in_err-action-5.was c.from_residual-in_err-action-5.ensures
     ∙ paired p.Else-is_not_a_pair ∙ formed p.In_ok-action-4 ∙ taken p.In_ok-action-3 ∙ needed p.In_ok-action-2 ∙ action p.In_ok-action
 
 pub returns-then-has_both_quotes : goal.returns-then-has_both_quotes
