@@ -5,7 +5,7 @@ ghost use Rattle.message.specs.Values.{entries, value_at, offset_of, is_there};
 ghost use Rattle.message.specs.Layout.{count_size, entry_size, offset_at};
 ghost use Rattle.message.specs.Reading.{Laid, Reached, next_place, NoneAbove, Read};
 
-use crate::entries::{end_of, entries_of};
+use crate::entries::{end_of, entries_of, next_place};
 use crate::layout::{CODE, COUNT, ENTRY, u16_at};
 
 // A message whose layout is right, and the number of its entries.
@@ -97,7 +97,7 @@ impl<'a> Cursor<'a> {
             return None;
         }
         let value = self.message.value_here(self.at);
-        self.at += 1;
+        self.at = next_place(self.at, true);
         Some(value)
     }
 }
