@@ -134,7 +134,7 @@ module _ (m : Bytes) (laid : ∥ Laid m ∥₁) where
     unfolding is_there
     there_here h e = rw (found_here h e) (lt-ltb _ _ (filled at h))
 
-    not_here : (at < count m → code_at m at ≡ code → ⊥) → is_there code m ≡ false
+    pub not_here : (at < count m → code_at m at ≡ code → ⊥) → is_there code m ≡ false
     unfolding is_there
     not_here other = rw (missing_here other)
 
@@ -148,6 +148,9 @@ module _ (m : Bytes) (laid : ∥ Laid m ∥₁) where
         go true p true q = (ltb-true _ _ p, eqb-true _ _ q)
         go true p false q = absurd (false≢true (sym (not_here (λ h. eqb-false _ _ q)) ∙ e))
         go false p u q = absurd (false≢true (sym (not_past (ltb-false at (count m) p)) ∙ e))
+
+    pub there_inside : is_there code m ≡ true → at < entries m
+    there_inside e = omega (arith, (here_there e).0, laid_entries)
 
     pub found_there : is_there code m ≡ true → value code m ≡ value_at m at
     found_there e = found_here (here_there e).0 (here_there e).1

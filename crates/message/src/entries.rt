@@ -1,8 +1,9 @@
 // The entries of a message's header, and their values: plain functions on the bytes and a place, under the reader.
-ghost use Rattle.std.specs.Prelude.{◌≡◌, ◌-◌, ◌*◌, ◌<◌, ◌≤◌, length};
+ghost use Rattle.std.specs.Prelude.{◌≡◌, ◌+◌, ◌-◌, ◌*◌, ◌<◌, ◌≤◌, length};
 ghost use Rattle.octets.specs.Part.{PartOf};
 ghost use Rattle.message.specs.Values.{entries, entry_from, end_of, value_at};
 ghost use Rattle.message.specs.Layout.{count_size, entry_size, offset_at};
+ghost use Rattle.message.specs.Reading.{next_place};
 
 use crate::layout::{CODE, COUNT, ENTRY, u16_at};
 use octets::part_of;
@@ -61,4 +62,12 @@ pub fn value_at<'a>(m: &'a [u8], k: usize) -> &'a [u8]
     let offset = u16_at(m, COUNT + ENTRY * k + CODE);
     let end = end_of(m, n, k);
     part_of(m, offset, end.saturating_sub(offset))
+}
+
+// How far the reader has come where it goes on from an element that is there or not.
+pub fn next_place(at: usize, here: bool) -> usize
+    requires { at < 65536 }
+    ensures { (result ≡ next_place at here) × (result ≤ at + 1) }
+{
+    at + usize::from(here)
 }

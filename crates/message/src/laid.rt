@@ -3,9 +3,9 @@ ghost use Rattle.std.specs.Prelude.{◌≡◌, ◌+◌, ◌-◌, ◌*◌, ◌<�
 ghost use Rattle.octets.specs.Part.{PartOf};
 ghost use Rattle.message.specs.Values.{entries, value_at, offset_of, is_there};
 ghost use Rattle.message.specs.Layout.{count_size, entry_size, offset_at};
-ghost use Rattle.message.specs.Reading.{Laid, Reached, NoneAbove, Read};
+ghost use Rattle.message.specs.Reading.{Laid, Reached, next_place, NoneAbove, Read};
 
-use crate::entries::{end_of, entries_of};
+use crate::entries::{end_of, entries_of, next_place};
 use crate::layout::{CODE, COUNT, ENTRY, u16_at};
 
 // A message whose layout is right, and the number of its entries.
@@ -39,7 +39,7 @@ impl<'a> LaidMessage<'a> {
 
     // The value of entry k: that part of the message itself.
     #[tactic(auto, using(crate::proofs::ReadingLaws::laid_runs), unfolding(crate::specs::Values::value_at))]
-    fn value_here(self, k: usize) -> &'a [u8]
+    pub fn value_here(self, k: usize) -> &'a [u8]
         requires { k < self.count }
         ensures { (result.now ≡ value_at self.entry.src.now k) × PartOf self.entry.src (offset_at self.entry.src.now k) result }
     {
@@ -50,7 +50,7 @@ impl<'a> LaidMessage<'a> {
 
     // Whether an element is there, for a reader that has come to its code.
     #[tactic(auto, using(crate::proofs::ReadingLaws::laid_entries, crate::proofs::ReadingLaws::not_past, crate::proofs::ReadingLaws::there_test))]
-    fn is_here(self, code: u8, at: usize) -> bool
+    pub fn is_here(self, code: u8, at: usize) -> bool
         requires { Reached self.src.now code at }
         ensures value { result ≡ is_there code self.entry.src.now }
         ensures inside { result ≡ true → at < self.entry.count }
@@ -88,6 +88,7 @@ impl<'a> Cursor<'a> {
     pub fn value_of(&mut self, code: u8) -> Option<&'a [u8]>
         requires { Reached self.old.message.src.now code self.old.at }
         ensures message { self.new.message ≡ self.old.message }
+        ensures place { self.new.at ≡ next_place self.old.at (is_there code self.old.message.src.now) }
         ensures reached { Reached self.old.message.src.now (code + 1) self.new.at }
         ensures value { Read self.old.message.src.now code result }
         ensures part { IfSome result (λ v. PartOf self.old.message.src (offset_of code self.old.message.src.now) v) }
@@ -96,7 +97,7 @@ impl<'a> Cursor<'a> {
             return None;
         }
         let value = self.message.value_here(self.at);
-        self.at += 1;
+        self.at = next_place(self.at, true);
         Some(value)
     }
 }

@@ -10,7 +10,7 @@ ghost use Rattle.octets.specs.Part.{PartOf};
 ghost use Rattle.message.specs.Layout.{offset_at};
 ghost use Rattle.message.specs.Values.{entry_from, value_at, offset_of, value};
 
-pub use entries::entries_of;
+pub use entries::{entries_of, next_place};
 use entries::{entry_of, value_at};
 pub use laid::{Cursor, LaidMessage};
 pub use layout::layout_right;

@@ -15,7 +15,7 @@ use Rattle.rules.specs.Rules.{answer_of, action_in, rules_of, laid_rules, conclu
 use Rattle.rules.proofs.FindingLaws.{after_rule, stops_at, goes_on}
 
 -- a refusal, whether or not there is an action
-refuses : (n e : ℕ) (r : Result Action ℕ) → eqb n 0 ≡ false → conclude (n, e) r ≡ Err (n, e)
+pub refuses : (n e : ℕ) (r : Result Action ℕ) → eqb n 0 ≡ false → conclude (n, e) r ≡ Err (n, e)
 refuses n e (Err code) h = refl
 refuses n e (Ok a) h = rw h
 
@@ -90,12 +90,16 @@ module _ (n : ℕ) (a : Action) (m : Bytes) where
   pub test_on : (k : ℕ) {b : Bool} → after_rule n rs ≡ from_rule k rs → finding_of n rs ≡ broken_if b → b ≡ false → judged_from k (Ok a) m ≡ judged_from n (Ok a) m
   test_on k next f e = rule_on k next (f ∙ ap broken_if e)
 
+  pub check_stops : eqb n 0 ≡ false → {d : Result Action ℕ} {code : ℕ} → d ≡ answer_of a (finding_of n rs) → d ≡ Err code
+      → judged_by n d ≡ judged_from n (Ok a) m
+  check_stops some {d} {code} e f = ap (judged_by n) f ∙ rule_stops code some (broken_by a code (finding_of n rs) (sym e ∙ f))
+
   module _ (r : Result Action ℕ) (s : Result Action Refusal) (checked : r ≡ answer_of a (finding_of n rs)) where
-    pub check_stops : (t : Result Action Refusal) (d : Refusal) (V : ℕ → Refusal) → ((e : ℕ) → numbers_of (V e) ≡ (n, e)) → eqb n 0 ≡ false
+    pub refusal_stops : (t : Result Action Refusal) (d : Refusal) (V : ℕ → Refusal) → ((e : ℕ) → numbers_of (V e) ≡ (n, e)) → eqb n 0 ≡ false
         → MatchResult r (λ x. s ≡ Ok x) (λ e. IsErrAnd s (λ y. y ≡ V e)) → s ≡ Err d → IsErr t × IsErrAnd t (λ y. y ≡ d) → numbered t ≡ judged_from n (Ok a) m
-    check_stops t d V named some h e g =
+    refusal_stops t d V named some h e g =
         let b = turns_back n V named r s t d h e g in
-        b.2 ∙ ap (judged_by n) b.1 ∙ rule_stops b.0 some (broken_by a b.0 (finding_of n rs) (sym checked ∙ b.1))
+        b.2 ∙ check_stops some checked b.1
 
     pub check_on : (k : ℕ) (b : Action) (P : ℕ → Refusal → Type 0) → after_rule n rs ≡ from_rule k rs
         → MatchResult r (λ x. s ≡ Ok x) (λ e. IsErrAnd s (P e)) → s ≡ Ok b → judged_from k (Ok b) m ≡ judged_from n (Ok a) m

@@ -1,16 +1,17 @@
 // The rules one by one.
-ghost use Rattle.std.specs.Prelude.{ℕ, ◌≡◌, Bool};
+ghost use Rattle.std.specs.Prelude.{ℕ, ◌≡◌, Bool, not};
 ghost use Rattle.message.specs.Values.{value};
 ghost use Rattle.numbers.specs.Numbers.{unsigned_of};
-ghost use Rattle.elements.specs.Conditions.{facts_of};
+ghost use Rattle.actions.specs.Matrix.{pair_allowed};
+ghost use Rattle.elements.specs.Codes.{event_type};
 ghost use Rattle.rules.specs.Findings.{lowest};
-ghost use Rattle.rules.specs.Rules.{Needed, Taken, Formed, Due, answer_of, at_fault, TellsFaults, has_both_quotes, longer, long_quote, has_long_price, element_before, out_of_order};
+ghost use Rattle.rules.specs.Rules.{Needed, Taken, Formed, Due, answer_of, at_fault, FactsFor, TellsFaults, has_both_quotes, longer, long_quote, has_long_price, element_before, out_of_order};
 
-use actions::Action;
+use actions::{Action, is_pair};
 use elements::{
-    EFFECTIVE_DATE, EXECUTION_TIMESTAMP, EXPIRATION_DATE, Facts, LAST_CODE, MessageFacts,
-    QuoteCodes, REPORTING_TIMESTAMP, SETTLEMENT_DATE, has_form, is_due, is_needed, is_taken,
-    taken_up_to,
+    EFFECTIVE_DATE, EVENT_TYPE, EXECUTION_TIMESTAMP, EXPIRATION_DATE, Facts, LAST_CODE,
+    MessageFacts, QuoteCodes, REPORTING_TIMESTAMP, SETTLEMENT_DATE, has_form, is_due, is_needed,
+    is_taken, taken_up_to,
 };
 use message::{LaidMessage, element};
 
@@ -72,10 +73,17 @@ pub fn lowest_broken(message: LaidMessage, action: Action) -> Result<Action, u8>
     })
 }
 
+// 10. Whether the action and the event are no pair of the matrix.
+pub fn is_not_a_pair(m: &[u8], action: Action) -> bool
+    ensures { result ≡ not (pair_allowed action (value event_type m.now)) }
+{
+    !is_pair(action, element(m, EVENT_TYPE))
+}
+
 // 11. The lowest code of an element that is due under its condition and missing, or the action.
 #[tactic(auto, unfolding(elements::specs::Conditions::is_due))]
 pub fn lowest_due(message: LaidMessage, facts: Facts, action: Action) -> Result<Action, u8>
-    requires { facts ≡ facts_of message.src.now }
+    requires { FactsFor Due facts message.src.now }
     ensures { result ≡ answer_of action (lowest (at_fault Due action message.entry.src.now)) }
 {
     lowest_fault(message, action, |code, value| {

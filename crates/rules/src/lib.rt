@@ -8,12 +8,12 @@ ghost use Rattle.std.specs.Prelude.{◌≡◌};
 ghost use Rattle.rules.specs.Verdicts.{action_wrong};
 ghost use Rattle.rules.specs.Rules.{action_in, verdict, judged, judged_from, verdict_of, numbered};
 
-use actions::{ACTION_TYPE, Action, is_pair, read_action};
+use actions::{ACTION_TYPE, Action, read_action};
 use checks::{
-    has_both_quotes, has_long_price, is_out_of_order, lowest_broken, lowest_due, lowest_missing,
-    lowest_not_taken,
+    has_both_quotes, has_long_price, is_not_a_pair, is_out_of_order, lowest_broken, lowest_due,
+    lowest_missing, lowest_not_taken,
 };
-use elements::{EVENT_TYPE, MessageFacts, has_layout};
+use elements::{MessageFacts, has_layout};
 use message::{LaidMessage, element};
 pub use verdicts::Refusal;
 
@@ -38,7 +38,7 @@ fn judge_laid(message: LaidMessage) -> Result<Action, Refusal>
     let action = lowest_missing(message, action).map_err(Refusal::ElementMissing)?;
     let action = lowest_not_taken(message, action).map_err(Refusal::ElementNotTaken)?;
     let action = lowest_broken(message, action).map_err(Refusal::FormBroken)?;
-    if !is_pair(action, element(m, EVENT_TYPE)) {
+    if is_not_a_pair(m, action) {
         return Err(Refusal::NotAPair);
     }
     let asked = MessageFacts::of(m);

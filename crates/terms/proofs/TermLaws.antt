@@ -1,5 +1,6 @@
 -- Laws of specs/Terms.antt. Assumes nothing.
 use Prim.Native.Nat.{ℕ, ◌+◌, ◌≤◌}
+use mathlib.Core.Bool.{Bool}
 use mathlib.Core.Path.{◌≡◌}
 use mathlib.Core.List.{[], ◌∷◌}
 use lib.ListN.{length, set, drop_of_length-le}
@@ -8,12 +9,15 @@ use Rattle.std.proofs.Common.{add-one}
 use native.Mathlib.Omega.{arith}
 use borrow.Author.Tests.{eq-eqb, ne_eqb}
 use Rattle.octets.specs.Bytes.{Bytes}
+use Rattle.octets.specs.Choice.{choose}
+use Rattle.octets.specs.Text.{text}
+use Rattle.values.specs.Code.{is_true}
 use Rattle.notional.proofs.MaskingLaws.{shown_largest}
 use Rattle.price.specs.Price.{shown_price}
 use Rattle.octets.specs.Part.{splice}
 use Rattle.octets.specs.Field.{field}
 use Rattle.octets.specs.Fields.{FieldText, written}
-use Rattle.terms.specs.Terms.{mark_size, price_text, term_fields, terms_of, terms_size}
+use Rattle.terms.specs.Terms.{mark_size, shown_truth, price_text, term_fields, terms_of, terms_size}
 use Rattle.terms.specs.Laws.{NotionalFits}
 use Rattle.octets.proofs.FieldRun.{then_written, last_written, length_bytes, all_written}
 
@@ -27,6 +31,14 @@ nothing v e = drop_of_length-le v {i = 0} (omega arith)
 pub mark_written : (d xs : Bytes) (at b : ℕ) → at + mark_size ≤ length d → b ∷ [] ≡ field mark_size xs → set d at b ≡ splice d at (field mark_size xs)
 unfolding splice
 mark_written d xs at b h e = rw (← e, add-one) (set_split d at b (omega arith))
+
+pub truth_none : (v : Bytes) → length v ≡ 0 → v ≡ shown_truth v
+unfolding shown_truth
+truth_none v e = rw (eq-eqb _ _ e) (nothing v e)
+
+pub truth_shown : (v : Bytes) (t : Bool) → (length v ≡ 0 → ⊥) → is_true v ≡ t → choose t (text "T") (text "F") ≡ shown_truth v
+unfolding shown_truth
+truth_shown v t some e = rw (ne_eqb _ _ some, e)
 
 pub price_none : (v : Bytes) → length v ≡ 0 → v ≡ price_text v
 unfolding price_text

@@ -11,4 +11,4 @@ returns-then-not-is_here-clause-reached c =
 pub returns-clause-reached : goal.returns-clause-reached
 returns-clause-reached c =
     let s = c.args.self.now in
-    reached_over s.message.src.now s.message.laid c.args.code s.at c.requires (sym c.is_here.ensures.value ∙ c.if-not-is_here.false)
+    rw c.next_place-self.ensures.0 (reached_over s.message.src.now s.message.laid c.args.code s.at c.requires (sym c.is_here.ensures.value ∙ c.if-not-is_here.false))
