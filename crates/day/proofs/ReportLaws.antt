@@ -5,7 +5,7 @@ use mathlib.Core.List.{[], ◌∷◌, ◌++◌}
 use native.Mathlib.Numerals.{add-one}
 use native.Mathlib.Omega.{arith}
 use borrow.Author.Tests.{lt-ltb, le-ltb}
-use lib.ListN.{length, set, length-append}
+use lib.ListN.{length, replicate, set, length-append}
 use lib.Seq.{set_split}
 use Rattle.octets.specs.Bytes.{Bytes}
 use Rattle.octets.specs.Part.{splice}
@@ -34,12 +34,21 @@ pub ruleset digits_turn = (digits_more, digits_stop, digits_end)
 
 -- ---- a write behind another is one write
 
-set_one : (d : Bytes) (i b : ℕ) → i < length d → set d i b ≡ splice d i (b ∷ [])
+pub set_one : (d : Bytes) (i b : ℕ) → i < length d → set d i b ≡ splice d i (b ∷ [])
 unfolding splice
 set_one d i b h = rw (set_split d i b h, ← add-one i)
 
-pub put_end : (d ys : Bytes) (at k b : ℕ) {e : Bytes} → length ys ≡ k → at + (k + 1) ≤ length d → e ≡ splice d at ys → Put d at (ys ++ (b ∷ [])) (set e (at + k) b) (at + k + 1)
-put_end d ys at k b {e = e} n h p =
+pub put_end : (d ys : Bytes) (at k b : ℕ) {e f : Bytes} → length ys ≡ k → at + (k + 1) ≤ length d → e ≡ splice d at ys → f ≡ splice e (at + k) (replicate 1 b) → Put d at (ys ++ (b ∷ [])) f (at + k + 1)
+put_end d ys at k b {e = e} {f = f} n h p q =
+    let next : f ≡ splice (splice d at ys) (at + length ys) (b ∷ []) = q ∙ ap (λ (x : Bytes). splice x (at + k) (b ∷ [])) p ∙ ap (λ (j : ℕ). splice (splice d at ys) (at + j) (b ∷ [])) (sym n) in
+    record {
+      bytes = next ∙ splice_splice d ys (b ∷ []) at (omega arith);
+      place = omega (arith, length-append ys (b ∷ []));
+    }
+
+-- the same of one byte that is set
+pub put_set : (d ys : Bytes) (at k b : ℕ) {e : Bytes} → length ys ≡ k → at + (k + 1) ≤ length d → e ≡ splice d at ys → Put d at (ys ++ (b ∷ [])) (set e (at + k) b) (at + k + 1)
+put_set d ys at k b {e = e} n h p =
     let there : at + k < length e = omega (arith, ap length p, length_splice d ys at (omega arith)) in
     let next : set e (at + k) b ≡ splice (splice d at ys) (at + length ys) (b ∷ []) = set_one e (at + k) b there ∙ ap (λ (x : Bytes). splice x (at + k) (b ∷ [])) p ∙ ap (λ (j : ℕ). splice (splice d at ys) (at + j) (b ∷ [])) (sym n) in
     record {

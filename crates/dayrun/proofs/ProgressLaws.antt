@@ -17,13 +17,13 @@ use Rattle.submission.specs.Submission.{Submitted}
 use Rattle.repository.specs.declared.answer.Answer.{Answer}
 use Rattle.repository.specs.Answers.{submission_answer}
 use Rattle.day.specs.declared.frame.Frame.TheVariants.{Partial}
-use Rattle.day.specs.Frame.{length_size, is_whole}
+use Rattle.day.specs.Frame.{length_size, longest_frame, is_whole}
 use Rattle.octets.specs.Text.{text}
-use Rattle.day.specs.Report.{line, heading, report_line}
+use Rattle.day.specs.Report.{line, heading, longest_line, report_line}
 use Rattle.dayrun.specs.declared.judging.Progress.{Progress}
-use Rattle.dayrun.specs.Day.{Day, Step, answered, step_on, step, after_messages, rest_after}
+use Rattle.dayrun.specs.Day.{Day, Step, most_messages, answered, step_on, step, after_messages, rest_after}
 use Rattle.dayrun.proofs.DayLaws.{step_none, step_one, after_more, rest_more, not_whole_left}
-use Rattle.dayrun.specs.Progress.{counted, day_of, step_at, progress_after, write_size, waiting_with, waiting_after, JudgedUpTo, at_start, written, Within}
+use Rattle.dayrun.specs.Progress.{counted, day_of, step_at, progress_after, write_size, waiting_with, waiting_after, JudgedUpTo, at_start, at_front, written, Within, Steps, Leaves}
 
 -- ---- what is counted is the step's
 
@@ -42,6 +42,28 @@ unmoved lent xs p =
     let row : ℕ → ℕ → Progress = λ at used. record { at = at; used = used; judged = p.judged; published = p.published; is_open = p.is_open } in
     ap (λ (at : ℕ). row at p.used) (sym (add-zero p.at)) ∙ ap (row (p.at + 0)) (sym (add-zero p.used))
 
+-- ---- bounds
+
+-- one message further
+pub one_further : (n taken : ℕ) (p r : Progress) → p.at + taken ≤ n → 0 < taken → p.judged < most_messages → (r.at ≡ p.at + taken) × (r.used ≤ p.used + longest_line) × (r.judged ≡ p.judged + 1) × (r.published ≤ r.judged) → Steps n p r
+one_further n taken p r h k m f =
+    record {
+      within = record { passed = omega (arith, f.0); waiting = omega (arith, f.1); lines = f.3; messages = omega (arith, f.2) };
+      forward = omega (arith, f.0);
+      counts = λ _. omega (arith, f.2);
+      stays = λ e. absurd (omega (arith, f.0, e));
+    }
+
+-- no message is whole
+pub no_further : (n : ℕ) (p : Progress) → p.at ≤ n → p.published ≤ p.judged → p.judged < most_messages → n - p.at < longest_frame → Steps n p p
+no_further n p h l m k =
+    record {
+      within = record { passed = h; waiting = omega arith; lines = l; messages = omega arith };
+      forward = omega arith;
+      counts = λ e. absurd (omega (arith, e));
+      stays = λ _. (k, refl);
+    }
+
 -- ---- writing out
 
 few_wait : (writes : Bool) (n : ℕ) → (writes ≡ false → n < write_size) → choose writes 0 n < write_size
@@ -52,11 +74,24 @@ pub written_within : (n most : ℕ) (writes ensured : Bool) (p r : Progress) →
 written_within n most writes ensured p r e h w =
     subst (Within n write_size) (sym e) (record { passed = w.passed; waiting = few_wait writes p.used h; lines = w.lines; messages = w.messages })
 
--- ---- before the first message
+-- ---- from one block to the next
 
 pub start_within : (p : Progress) → p ≡ at_start → Within 0 write_size p
 unfolding text line heading
 start_within p e = subst (Within 0 write_size) (sym e) (record { passed = omega arith; waiting = omega arith; lines = omega arith; messages = omega arith })
+
+pub from_start : (n most : ℕ) (p : Progress) → Within 0 most p → Within n most p
+from_start n most p w =
+    record { passed = omega (arith, w.passed); waiting = w.waiting; lines = w.lines; messages = w.messages }
+
+pub front_within : (n most : ℕ) (p r : Progress) → r ≡ at_front p → Within n most p → Within 0 most r
+front_within n most p r e w =
+    subst (Within 0 most) (sym e) (record { passed = omega arith; waiting = w.waiting; lines = w.lines; messages = w.messages })
+
+pub front_leaves : (input : Bytes) (kept : ℕ) (p r : Progress) → r ≡ at_front p → kept ≡ length input - p.at → Leaves input p → r.is_open ≡ true → r.judged < most_messages → kept < longest_frame
+front_leaves input kept p r e k leaves o m =
+    let h : length input - p.at < longest_frame = (leaves (ap (λ (x : Progress). x.is_open) (sym e) ∙ o) (subst (λ (x : Progress). x.judged < most_messages) e m)).1 in
+    omega (arith, h, k)
 
 -- ---- what waits
 

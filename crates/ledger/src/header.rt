@@ -112,5 +112,8 @@ pub fn read_header(l: &[u8], largest: u32) -> Option<Header>
     ensures { result ≡ checked_header largest l.now }
 {
     let h = read_numbers(l);
-    is_right(l, largest, h).then_some(h)
+    if !is_right(l, largest, h) {
+        return None;
+    }
+    Some(h)
 }

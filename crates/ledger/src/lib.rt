@@ -18,4 +18,4 @@ pub use line::{LINE_SIZE, write_line};
 pub use opening::write_header;
 pub use rows::{store_row, update_header};
 pub use search::{Swap, find_swap, terms_at, time_of};
-pub use totals::{Totals, total_of};
+pub use totals::{Totals, in_order, total_of};

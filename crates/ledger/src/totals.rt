@@ -46,11 +46,17 @@ pub fn read_totals(l: &[u8]) -> Totals
 }
 
 // The totals by status from live to ported.
+pub fn in_order(totals: Totals) -> [u32; TOTALS]
+    ensures { result ≡ in_order totals }
+{
+    [totals.live, totals.closed, totals.errored, totals.ported]
+}
+
 impl From<Totals> for [u32; TOTALS] {
     ghost from_gives = { λ totals numbers. numbers ≡ in_order totals };
 
     fn from(totals: Totals) -> [u32; TOTALS] {
-        [totals.live, totals.closed, totals.errored, totals.ported]
+        in_order(totals)
     }
 }
 

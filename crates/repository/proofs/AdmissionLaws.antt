@@ -6,6 +6,7 @@ use mathlib.Core.Bool.{Bool, true, false}
 use mathlib.Core.Path.{◌≡◌, refl, sym, ap, ap₂, ◌∙◌, subst}
 use mathlib.Core.List.{[], ◌∷◌}
 use native.Mathlib.Omega.{arith}
+use lib.ListN.{length}
 use lib.Dec.{eqb}
 use borrow.Author.Tests.{eqb-true, eqb-false, ltb-false}
 use Rattle.octets.specs.Bytes.{Bytes}
@@ -19,7 +20,7 @@ use Rattle.terms.specs.Terms.{terms_of}
 use Rattle.rules.specs.Findings.{first_broken, before_rule}
 use Rattle.rules.specs.Rules.{rules_for}
 use Rattle.rules.proofs.FindingLaws.{broken_then}
-use Rattle.ledger.specs.Layout.{u32, row_start}
+use Rattle.ledger.specs.Layout.{u32, uti_size, row_start}
 use Rattle.ledger.specs.Header.{rows_in_use, next_identifier, caps_in, are_caps, header_of}
 use Rattle.ledger.specs.Rows.{holds_uti, row_at, stored_terms, place_in, place_of, is_known, swap_status, swap_identifier, row_after, header_after}
 use Rattle.ledger.specs.Line.{line}
@@ -32,6 +33,10 @@ use Rattle.submission.specs.Submission.{swap_of, action_in, line_due, line_due_i
 use Rattle.submission.proofs.Acceptance.{Admitted, as_admitted, eighteen_last, left_to_18, HasPlace, tape_test, has_place}
 use Rattle.submission.proofs.Lookup.{low, lowers}
 use Rattle.repository.specs.Decision.{Shown, admission_in, decided_on, decision, submitted_by, finished, Writable}
+
+-- the value that was looked up fits the row
+pub uti_fits : (u v : Bytes) → length v ≤ uti_size → u ≡ v → length u ≤ uti_size
+uti_fits u v h e = rw e h
 
 -- ---- what a submission is, by the decision
 

@@ -28,8 +28,8 @@ use Rattle.submission.specs.Verdicts.{ledger_wrong, tape_short, row_wrong, not_a
 use Rattle.submission.specs.Opening.{Limits}
 use Rattle.submission.specs.Lent.{Lent}
 use Rattle.submission.specs.Submission.{swap_of, action_in, has_wrong_row, is_not_admitted, has_other_time, finds_full, cap_on, swap_rules, rules_in, after_rules, submission_rules, admitting_rules}
-use Rattle.repository.specs.declared.refusal.Refusal.{Refusal}
-use Rattle.repository.specs.declared.refusal.Refusal.TheVariants.{LedgerWrong}
+use Rattle.repository.specs.declared.verdicts.Refusal.{Refusal}
+use Rattle.repository.specs.declared.verdicts.Refusal.TheVariants.{LedgerWrong}
 use Rattle.repository.specs.Decision.{Shown, admission_for, decided, decided_on, decision, decision_from, decided_from, decision_in, HeaderRead}
 
 refuses : (n e : ℕ) (r : Result Action ℕ) (l m : Bytes) → eqb n 0 ≡ false → decided_on (n, e) r l m ≡ Err (n, e)
@@ -63,7 +63,7 @@ test_stops n limits lent m some f = sym (ap (λ v. decided_on v (action_in m) le
 
 module _ (limits : Limits) (lent : Lent) (m : Bytes) where
   -- 3 is the first rule
-  from_first : decision_from ledger_wrong limits lent m ≡ decision limits lent m
+  pub from_first : decision_from ledger_wrong limits lent m ≡ decision limits lent m
   unfolding decision decision_from submission_rules from_rule before_rule
   from_first = refl
 
@@ -89,12 +89,18 @@ module _ (limits : Limits) (lent : Lent) (m : Bytes) where
       let same : decision_from layout_wrong limits lent m ≡ decision_from tape_short limits lent m = rw (le-ltb _ _ long) in
       same ∙ from_tape right
 
-  message_left : (j : Result Action (ℕ × ℕ)) → rules.judged limits.longest m ≡ j → Left lent.ledger m (decision_from layout_wrong limits lent m) j
+  pub message_left : (j : Result Action (ℕ × ℕ)) → rules.judged limits.longest m ≡ j → Left lent.ledger m (decision_from layout_wrong limits lent m) j
   unfolding rules.judged verdict decision_from submission_rules rules_for from_rule before_rule
   message_left j e = subst (Left lent.ledger m (decision_from layout_wrong limits lent m)) e (left_by_lem limits.longest lent.ledger m (action_in m))
 
   pub judged_left : header_right limits.largest lent.ledger ≡ true → line_size ≤ length lent.buffers.tape → (j : Result Action (ℕ × ℕ)) → rules.judged limits.longest m ≡ j → Left lent.ledger m (decision limits lent m) j
   judged_left right long j e = subst (λ d. Left lent.ledger m d j) (from_message right long) (message_left j e)
+
+-- rules 14 to 17 with what was read of a ledger
+pub decision_is : (a : Action) (l m : Bytes) (h : Header) (s : Swap) (time : Bytes) (cap : ℕ) → h ≡ header_of l → s ≡ swap_in l (swap_of m) → time ≡ choose s.known (stored_time (row_at l s.place)) []
+    → cap ≡ choose (is_full a) (cap_on h.caps m) 0 → decided_from row_wrong h s time m (admission_for a h s cap) ≡ decision_in a l m
+unfolding decision_in decided_from swap_rules from_rule swap_time header_of
+decision_is a l m h s time cap e g t c = rw (t, c, e, g)
 
 -- rules 14 to 17, one by one
 one_by_one : (h : Header) (w : Swap) (time m : Bytes) (s : Shown)

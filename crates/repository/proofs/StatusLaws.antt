@@ -20,8 +20,8 @@ use Rattle.ledger.specs.declared.header.Header.{Header}
 use Rattle.ledger.specs.declared.search.Swap.{Swap}
 use Rattle.ledger.specs.Rows.{is_known, swap_status, swap_in}
 use Rattle.submission.specs.Submission.{row_right, has_wrong_row}
-use Rattle.repository.specs.declared.refusal.Refusal.{Refusal}
-use Rattle.repository.specs.declared.refusal.Refusal.TheVariants.{NotAdmitted}
+use Rattle.repository.specs.declared.verdicts.Refusal.{Refusal}
+use Rattle.repository.specs.declared.verdicts.Refusal.TheVariants.{NotAdmitted}
 
 -- a number that no status has is outside 1 to 4
 no_status_by : (n : ℕ) (e : NoStatus) → Decodes n (Err e) → within live ported n ≡ false

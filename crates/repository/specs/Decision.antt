@@ -19,7 +19,7 @@ use Rattle.submission.specs.Verdicts.{identifiers_spent}
 use Rattle.submission.specs.Submission.{swap_of, action_in, line_due_in, finds_spent, cap_on, swap_rules, rules_in, admitting_rules, place_for, Submitted, accepted, refused}
 use Rattle.repository.specs.declared.answer.Answer.{Answer}
 use Rattle.repository.specs.declared.decide.Admission.{Admission}
-use Rattle.repository.specs.declared.refusal.Refusal.{Refusal}
+use Rattle.repository.specs.declared.verdicts.Refusal.{Refusal}
 use Rattle.repository.specs.Answers.{refusal_answer}
 use Rattle.repository.specs.Refusals.{numbers_of}
 

@@ -5,8 +5,8 @@ use Rattle.rules.specs.Rules as rules
 use Rattle.submission.specs.Verdicts.{ledger_short, cap_wrong, ledger_wrong, tape_short, row_wrong, not_admitted, other_time, ledger_full, identifiers_spent}
 use Rattle.submission.specs.Totals.{no_totals}
 use Rattle.repository.specs.declared.answer.Answer.{Answer}
-use Rattle.repository.specs.declared.refusal.Refusal.{Refusal}
-use Rattle.repository.specs.declared.refusal.Refusal.TheVariants.{LedgerShort, CapWrong, LedgerWrong, TapeShort, Message, RowWrong, NotAdmitted, OtherTime, LedgerFull, IdentifiersSpent}
+use Rattle.repository.specs.declared.verdicts.Refusal.{Refusal}
+use Rattle.repository.specs.declared.verdicts.Refusal.TheVariants.{LedgerShort, CapWrong, LedgerWrong, TapeShort, Message, RowWrong, NotAdmitted, OtherTime, LedgerFull, IdentifiersSpent}
 use Rattle.repository.specs.Answers.{answer_with, refusal_answer}
 
 abbrev pub numbers_of : Refusal → ℕ × ℕ

@@ -1,11 +1,11 @@
 // The answer of an operation, and the one number that carries it to a C host.
 ghost use Rattle.std.specs.Prelude.{◌<◌, ◌≡◌};
-ghost use Rattle.repository.specs.Answers.{carried_limit, packed, answer_in};
+ghost use Rattle.repository.specs.Answers.{carried_limit, refusal_answer, packed, answer_in};
 ghost use Rattle.repository.specs.Refusals.{refused_answer, concluded_answer, asked_answer};
 ghost use Rattle.repository.specs.Decision.{numbered, decision_answer};
 
 use crate::decide::Admission;
-use crate::refusal::Refusal;
+use crate::verdicts::Refusal;
 use ledger::Swap;
 
 // Where element, status and identifier start in the number, as the factor of each.
@@ -34,15 +34,22 @@ const ACCEPTED: Answer = Answer {
 };
 
 // A refusal: beside it, status and identifier are 0.
+pub fn refusal(verdict: u8, element: u8) -> Answer
+    ensures { result ≡ refusal_answer verdict element }
+{
+    Answer {
+        verdict,
+        element,
+        ..ACCEPTED
+    }
+}
+
+// A refusal has its own number and element.
 impl From<Refusal> for Answer {
     ghost from_gives = { λ r a. a ≡ refused_answer r };
 
     fn from(r: Refusal) -> Answer {
-        Answer {
-            verdict: r.verdict(),
-            element: r.element(),
-            ..ACCEPTED
-        }
+        refusal(r.verdict(), r.element())
     }
 }
 

@@ -14,7 +14,7 @@ ghost use Rattle.repository.specs.Decision.{finished, shown, Writable};
 
 use crate::apply::apply;
 use crate::decide::Admission;
-use crate::refusal::Refusal;
+use crate::verdicts::Refusal;
 use actions::{Action, is_full, needs_change, writes_line};
 use ledger::{IDENTIFIER_LIMIT, terms_at};
 use terms::{SIZE, write_terms};

@@ -1,13 +1,14 @@
 // The decision on a message: the rules of a submission in checking order, up to 17. Reads only.
-ghost use Rattle.std.specs.Prelude.{◌≡◌};
+ghost use Rattle.std.specs.Prelude.{◌≡◌, length, ltb};
 ghost use Rattle.octets.specs.Choice.{choose};
 ghost use Rattle.actions.specs.Actions.{is_full};
+ghost use Rattle.ledger.specs.Layout.{line_size};
 ghost use Rattle.submission.specs.Lent.{lent_of};
 ghost use Rattle.submission.specs.Submission.{cap_on, row_right, has_wrong_row, has_other_time, finds_full};
 ghost use Rattle.repository.specs.Answers.{limits_of};
 ghost use Rattle.repository.specs.Decision.{numbered, decision, decision_in, HeaderRead};
 
-use crate::refusal::Refusal;
+use crate::verdicts::Refusal;
 use actions::{Action, Status, is_full, is_new, repeats_time, status_after};
 use elements::{ASSET_CLASS, EXECUTION_TIMESTAMP, UTI};
 use ledger::{Caps, Header, LINE_SIZE, Swap, cap_for, find_swap, read_header, time_of, total_of};
@@ -62,6 +63,13 @@ pub fn has_wrong_row(header: Header, swap: Swap) -> bool
     swap.known && !is_row_right(header, swap)
 }
 
+// Whether the tape buffer is shorter than a line (4).
+fn is_tape_short(tape: &[u8]) -> bool
+    ensures { result ≡ ltb (length tape.now) line_size }
+{
+    tape.len() < LINE_SIZE
+}
+
 // Whether a message has to repeat the stored execution time and has another one (16).
 #[tactic(auto, using(octets::proofs::SameLaws::same_pointwise), unfolding(submission::specs::Submission::has_other_time))]
 fn has_other_time(a: Action, time: &[u8], m: &[u8]) -> bool
@@ -89,7 +97,7 @@ pub fn decide(
     ensures { numbered result ≡ decision (limits_of longest largest) (lent_of l.now tape.now) m.now }
 {
     let header = read_header(l, largest).ok_or(Refusal::LedgerWrong)?;
-    if tape.len() < LINE_SIZE {
+    if is_tape_short(tape) {
         return Err(Refusal::TapeShort);
     }
     let action = judge(m, longest)?;

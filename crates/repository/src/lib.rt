@@ -7,7 +7,7 @@ mod apply;
 mod conclude;
 mod decide;
 mod operations;
-mod refusal;
+mod verdicts;
 
 ghost use Rattle.std.specs.Prelude.{◌≡◌};
 ghost use Rattle.submission.specs.Opening.{document_limits, opened};
@@ -19,12 +19,12 @@ ghost use Rattle.repository.specs.Answers.{caps_of, submission_answer, question_
 ghost use Rattle.repository.specs.Refusals.{verdict_of};
 ghost use Rattle.repository.specs.Demands.{OpeningDemands, SubmissionDemands, QuestionDemands, TotalsDemands};
 
-pub use answer::Answer;
 use answer::pack;
+pub use answer::{Answer, refusal};
 use ledger::{Caps, TOTALS};
 use operations::status;
 pub use operations::{open, submit};
-pub use refusal::Refusal;
+pub use verdicts::Refusal;
 
 // The specification's limits: the longest message in bytes, and the largest capacity in rows.
 pub const LONGEST_MESSAGE: usize = 2_048;

@@ -11,7 +11,7 @@ ghost use Rattle.repository.specs.Refusals.{verdict_of, asked_answer, totals_of}
 use crate::answer::Answer;
 use crate::conclude::conclude;
 use crate::decide::{decide, has_wrong_row};
-use crate::refusal::Refusal;
+use crate::verdicts::Refusal;
 use elements::{UTI, has_form};
 use ledger::{
     Caps, SHORTEST_LEDGER, Swap, TOTALS, are_caps, capacity_for, find_swap, read_header,

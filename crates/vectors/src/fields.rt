@@ -1,4 +1,6 @@
 // The fields of a line, with a space between them, by their place counted from 0; a field that the line has not is empty.
+ghost use Rattle.std.specs.Prelude.{◌≤◌, length};
+
 use crate::text;
 
 pub fn field_at<'a>(line: &'a [u8], k: usize) -> &'a [u8] {
@@ -24,7 +26,9 @@ pub fn number_at(line: &[u8], k: usize) -> u64 {
 }
 
 // The bytes of a field of # and hexadecimal digits, as many as there is room for.
-pub fn bytes_at<'a>(line: &[u8], k: usize, room: &'a mut [u8]) -> &'a [u8] {
+pub fn bytes_at<'a>(line: &[u8], k: usize, room: &'a mut [u8]) -> &'a [u8]
+    ensures { length result.now ≤ length room.old }
+{
     let field = field_at(line, k);
     text::decode(field.get(1..).unwrap_or(b""), room)
 }

@@ -1,5 +1,5 @@
 // Text out, and hexadecimal in and out.
-ghost use Rattle.std.specs.Prelude.{◌<◌};
+ghost use Rattle.std.specs.Prelude.{◌<◌, ◌≤◌, length};
 
 use std::fmt;
 
@@ -22,7 +22,9 @@ fn digit(b: u8) -> u8
 }
 
 // The bytes of a text of hexadecimal digits, as many as there is room for.
-pub fn decode<'a>(text: &[u8], room: &'a mut [u8]) -> &'a [u8] {
+pub fn decode<'a>(text: &[u8], room: &'a mut [u8]) -> &'a [u8]
+    ensures { length result.now ≤ length room.old }
+{
     let n = room.len().min(text.len() / 2);
     let (pairs, _) = text.as_chunks::<2>();
     for (byte, [high, low]) in room.iter_mut().zip(pairs) {

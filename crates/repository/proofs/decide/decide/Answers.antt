@@ -1,6 +1,7 @@
 -- `repository::decide::decide` meets its contract. Assumes nothing.
 use Rattle.std.proofs.Common.{sym, ap, ◌∙◌, arith}
 use Rattle.std.proofs.lemmas.Result.{err_from_is_err_and}
+use borrow.Author.Tests.{ltb-true, ltb-false}
 use Rattle.rules.specs.Rules.{numbered}
 use Rattle.submission.specs.Lent.{lent_of}
 use Rattle.repository.specs.Answers.{limits_of}
@@ -13,16 +14,16 @@ returns-in_err-header c =
     let wrong = wrong_header_read _ _ _ _ _ c.read_header.ensures c.ok_or.ensures.value c.in_err-header.was in
     rw (p.1, p.2, wrong.1) (ledger_refuses (limits_of c.args.longest c.args.largest) (lent_of c.args.l.now c.args.tape.now) c.args.m.now wrong.0)
 
-pub returns-then-tape-lt-LINE_SIZE : goal.returns-then-tape-lt-LINE_SIZE
-returns-then-tape-lt-LINE_SIZE c =
+pub returns-then-is_tape_short : goal.returns-then-is_tape_short
+returns-then-is_tape_short c =
     let right = right_header_read _ _ _ _ _ c.read_header.ensures c.ok_or.ensures.value c.in_ok-header.was in
-    tape_refuses (limits_of c.args.longest c.args.largest) (lent_of c.args.l.now c.args.tape.now) c.args.m.now right.0 c.if-tape-lt-LINE_SIZE.true
+    tape_refuses (limits_of c.args.longest c.args.largest) (lent_of c.args.l.now c.args.tape.now) c.args.m.now right.0 (ltb-true _ _ (sym c.if-is_tape_short.ensures))
 
 pub returns-in_err-action : goal.returns-in_err-action
 returns-in_err-action c =
     let p = err_from_is_err_and c.from_residual-in_err-action.result c.from_residual-in_err-action.ensures.1 in
     let right = right_header_read _ _ _ _ _ c.read_header.ensures c.ok_or.ensures.value c.in_ok-header.was in
-    rw (p.1, p.2) (sym (judged_left (limits_of c.args.longest c.args.largest) (lent_of c.args.l.now c.args.tape.now) c.args.m.now right.0 (omega arith) _ (sym c.judge.ensures.value ∙ ap numbered c.in_err-action.was)))
+    rw (p.1, p.2) (sym (judged_left (limits_of c.args.longest c.args.largest) (lent_of c.args.l.now c.args.tape.now) c.args.m.now right.0 (ltb-false _ _ (sym c.if-is_tape_short.ensures)) _ (sym c.judge.ensures.value ∙ ap numbered c.in_err-action.was)))
 
 pub admit-requires : goal.admit-requires
 admit-requires c =
@@ -31,4 +32,4 @@ admit-requires c =
 pub returns : goal.returns
 returns c =
     let right = right_header_read _ _ _ _ _ c.read_header.ensures c.ok_or.ensures.value c.in_ok-header.was in
-    c.admit.ensures ∙ sym (judged_left (limits_of c.args.longest c.args.largest) (lent_of c.args.l.now c.args.tape.now) c.args.m.now right.0 (omega arith) _ (sym c.judge.ensures.value ∙ ap numbered c.in_ok-action.was))
+    c.admit.ensures ∙ sym (judged_left (limits_of c.args.longest c.args.largest) (lent_of c.args.l.now c.args.tape.now) c.args.m.now right.0 (ltb-false _ _ (sym c.if-is_tape_short.ensures)) _ (sym c.judge.ensures.value ∙ ap numbered c.in_ok-action.was))

@@ -1,7 +1,7 @@
 // What refuses an operation, under its number in specs/Refusals.antt.
 ghost use Rattle.std.specs.Prelude.{◌≡◌};
 ghost use Rattle.repository.specs.Refusals.{numbers_of};
-ghost use Rattle.repository.specs.declared.refusal.Refusal.TheVariants.{Message};
+ghost use Rattle.repository.specs.declared.verdicts.Refusal.TheVariants.{Message};
 
 // A rule that is broken: one of a message alone (crate rules), or one of the others in checking order.
 #[derive(Clone, Copy, Debug, PartialEq, Eq)]
