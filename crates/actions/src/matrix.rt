@@ -4,7 +4,7 @@ ghost use Rattle.actions.specs.Matrix.{no_event, tick, pair_allowed, NamedPairs}
 
 use crate::Action;
 use crate::table::{EVENTS, MATRIX, NO_EVENT, columns_of};
-use octets::place_in;
+use octets::find_code;
 
 // The matrix at an action and a column.
 fn has_tick(a: Action, column: usize) -> bool
@@ -24,7 +24,7 @@ pub fn is_pair(a: Action, event: &[u8]) -> bool
     if event.is_empty() {
         return has_tick(a, NO_EVENT);
     }
-    let Some(column) = place_in(event, &EVENTS) else {
+    let Some(column) = find_code(event, &EVENTS) else {
         return false;
     };
     has_tick(a, column)

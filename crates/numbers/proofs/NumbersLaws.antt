@@ -1,5 +1,5 @@
 -- Laws of specs/Numbers.antt: the size of a number that its form admits. Assumes nothing.
-use Prim.Native.Nat.{ℕ, zero, suc, ◌+◌, ◌<◌, ◌≤◌}
+use Prim.Native.Nat.{ℕ, zero, suc, ◌+◌, ◌-◌, ◌<◌, ◌≤◌, min}
 use Prim.Native.Char.{code}
 use mathlib.Core.Bool.{Bool, true, false, not, cond}
 use mathlib.Core.List.{[], ◌∷◌}
@@ -7,12 +7,15 @@ use mathlib.Core.Path.{◌≡◌, refl, sym, ap, ◌∙◌}
 use Rattle.std.specs.Prelude.{Option, Some, None, MatchOption}
 use Rattle.std.specs.List.{position_or_len}
 use Rattle.octets.specs.Search.{first_from}
+use native.Mathlib.Nat.{zero-add}
 use native.Mathlib.Omega.{arith}
-use borrow.Author.Tests.{ltb-true, ltb-false, leb-true, lt-ltb, le-ltb}
+use borrow.Author.Tests.{ltb-true, ltb-false, leb-true, lt-ltb, le-ltb, eqb-true, eq-eqb}
 use lib.Dec.{leb, ltb, eqb}
-use lib.ListN.{length, get_or, length-drop}
+use lib.ListN.{length, get_or, take, drop, length-take, length-drop}
 use lib.Seq.{take_all}
 use Rattle.octets.specs.Bytes.{Bytes}
+use Rattle.octets.proofs.SearchLaws.{first_passes}
+use Rattle.octets.proofs.WriteLaws.{drop_next}
 use Rattle.octets.specs.Choice.{choose, both}
 use Rattle.octets.proofs.ChoiceLaws.{both_first, both_second}
 use Rattle.values.specs.Run.{run_of}
@@ -76,6 +79,27 @@ module _ (a b : ℕ) (v : Bytes) (e : is_number a b v ≡ true) where
       go true p f = leb-true _ _ (both_second (run_of 1 b Digit (decimals_of v)) _ f)
       go false p f = omega (arith, whole_most, ltb-false (point_in v) (length v) p, length-drop (point_in v + 1) v)
 
+-- what stands before the point is a front of the number
+pub whole_within : (v : Bytes) → length (whole_of v) ≤ length v
+unfolding whole_of
+whole_within v = omega (arith, length-take (point_in v) v)
+
+-- the rest opens with the point: what stands after it there is what stands after it in the number
+point_first : (v : Bytes) (b : ℕ) → b ≡ code "." → point_in (b ∷ v) ≡ 0
+unfolding point_in first_from
+point_first v b e = rw (eq-eqb b (code ".") e)
+
+point_passes : (v : Bytes) → point_in v < length v → get_or v (point_in v) 0 ≡ code "."
+unfolding point_in
+point_passes v h = eqb-true _ _ (first_passes (λ k. eqb (get_or v k 0) (code ".")) 0 (length v) (rw zero-add h))
+
+rest_decimals : (v : Bytes) → point_in v < length v → decimals_of (drop (point_in v) v) ≡ decimals_of v
+unfolding decimals_of
+rest_decimals v h =
+    let p : ℕ = point_in v in
+    let opens : drop p v ≡ get_or v p 0 ∷ drop (p + 1) v = drop_next v p h in
+    rw (opens, point_first (drop (p + 1) v) (get_or v p 0) (point_passes v h))
+
 -- a number with no point, and one with a point
 pub whole_form : (a b : ℕ) (v : Bytes) → length v ≤ point_in v → is_number a b v ≡ run_of 1 a Digit v
 unfolding is_number whole_of
@@ -89,4 +113,24 @@ pub point_form : (a b : ℕ) (v : Bytes) → point_in v < length v → is_number
 unfolding is_number
 point_form a b v h = rw (lt-ltb (point_in v) (length v) h)
 
-pub ruleset forms = (whole_form, point_form)
+-- the two by the rest, which opens with the point
+module _ (a b : ℕ) (v w rest : Bytes) (e : w ≡ whole_of v) (f : rest ≡ take (length v - length w) (drop (length w) v)) where
+  rest_is : rest ≡ drop (length w) v
+  rest_is = f ∙ take_all (length v - length w) (drop (length w) v) (omega (arith, length-drop (length w) v))
+
+  whole_length : length w ≡ min (point_in v) (length v)
+  unfolding whole_of
+  whole_length = ap length e ∙ length-take (point_in v) v
+
+  pub bare_form : length rest ≡ 0 → is_number a b v ≡ run_of 1 a Digit w
+  unfolding whole_of
+  bare_form h =
+      let past : length v ≤ point_in v = omega (arith, ap length rest_is, whole_length, length-drop (length w) v) in
+      rw (e, take_all (point_in v) v past) (whole_form a b v past)
+
+  pub rest_form : (t : Bytes) → t ≡ decimals_of rest → 1 ≤ length rest → is_number a b v ≡ both (run_of 1 a Digit w) (both (run_of 1 b Digit t) (leb (length w + length t) a))
+  rest_form t g h =
+      let before : point_in v < length v = omega (arith, ap length rest_is, whole_length, length-drop (length w) v) in
+      let place : length w ≡ point_in v = omega (arith, whole_length) in
+      let tail : t ≡ decimals_of v = g ∙ ap decimals_of (rw place at rest_is) ∙ rest_decimals v before in
+      rw (tail, e) (point_form a b v before)

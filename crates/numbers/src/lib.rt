@@ -53,17 +53,21 @@ pub fn decimals_of<'a>(v: &'a [u8]) -> &'a [u8]
 }
 
 // Num(digits, decimals).
-#[tactic(auto, using(crate::proofs::NumbersLaws::forms))]
+#[tactic(auto, using(crate::proofs::NumbersLaws::whole_within))]
 pub fn is_number(digits: usize, decimals: usize, v: &[u8]) -> bool
     ensures { result ≡ is_number digits decimals v.now }
 {
-    match parts_of(v) {
-        Some((whole, tail)) => {
+    let whole = whole_of(v);
+    // From the point on: what stands after it is found at once.
+    let rest = &v[whole.len()..];
+    match rest {
+        [] => run_of(1, digits, Class::Digit, whole),
+        _ => {
+            let tail = decimals_of(rest);
             run_of(1, digits, Class::Digit, whole)
                 && run_of(1, decimals, Class::Digit, tail)
                 && whole.len() + tail.len() <= digits
         }
-        None => run_of(1, digits, Class::Digit, v),
     }
 }
 

@@ -1,15 +1,19 @@
 -- Laws of specs/Number.antt. Assumes nothing.
 use Prim.Native.Char.{code}
 use mathlib.Core.Path.{◌≡◌, refl, sym, ap, ap₂, ◌∙◌}
+use mathlib.Core.Bool.{Bool, true, false}
 use mathlib.Core.List.{[], ◌∷◌, ◌++◌, append_assoc}
 use Prim.Native.Nat.{ℕ, zero, suc, ◌+◌, ◌-◌, ◌*◌, ◌/◌, ◌%◌, ◌^◌, ◌≤◌, ◌<◌}
 use native.Mathlib.Nat.{pow-le-pow_right, pow-suc, not-suc-le-zero, div-lt_iff_lt-mul}
 use native.Mathlib.Numerals.{add-one}
 use native.Mathlib.Omega.{arith}
-use lib.ListN.{length, get_or, take, drop, set, length-append}
-use lib.Seq.{set_split, drop_at, length-take-le}
+use lib.ListN.{length, get_or, take, drop, set, length-append, length-take, get_or-eq_default}
+use lib.Dec.{ltb}
+use borrow.Author.Tests.{ltb-true, ltb-false}
+use lib.Seq.{set_split, drop_at, length-take-le, get_or-take, get_or-drop}
 use lib.Arith.{digits_lt}
 use Rattle.octets.specs.Bytes.{Bytes}
+use Rattle.octets.specs.Part.{part}
 use Rattle.octets.specs.Number.{from_le, to_le, digits}
 
 -- ---- little-endian
@@ -50,6 +54,15 @@ from_le-same (x ∷ xs) (y ∷ ys) l f g e =
     let q : y < 256 = g 0 in
     let rest : from_le xs ≡ from_le ys = omega arith in
     ap₂ ◌∷◌ (omega arith) (from_le-same xs ys (omega arith) (λ k. f (suc k)) (λ k. g (suc k)) rest)
+
+pub part_bytes : (xs : Bytes) (at n : ℕ) → EachByte xs → EachByte (part xs at n)
+part_bytes xs at n f k = go (ltb k n) refl
+  where
+    go : (t : Bool) → ltb k n ≡ t → get_or (part xs at n) k 0 < 256
+    go true e = rw (get_or-take n (drop at xs) k 0 (ltb-true k n e), get_or-drop at xs k 0) (f (at + k))
+    go false e =
+        let past : length (part xs at n) ≤ k = omega (arith, length-take n (drop at xs), ltb-false k n e) in
+        rw (get_or-eq_default (part xs at n) 0 past) (omega arith)
 
 -- ---- decimal digits
 

@@ -1,14 +1,14 @@
 -- Laws of specs/Same.antt. Assumes nothing.
-use mathlib.Core.Path.{◌≡◌, refl, sym, ap, ◌∙◌}
+use mathlib.Core.Path.{◌≡◌, refl, sym, ap, ap₂, ◌∙◌}
 use mathlib.Core.Bool.{Bool, true, false, false≢true, ◌||◌, ◌&&◌, cond, not}
 use mathlib.Core.List.{List, [], ◌∷◌, ◌++◌, append_assoc, map}
 use Prim.Native.Nat.compare
-use Prim.Native.Nat.{ℕ, zero, suc, ◌+◌, ◌*◌, ◌<◌, ◌≤◌}
+use Prim.Native.Nat.{ℕ, zero, suc, ◌+◌, ◌-◌, ◌*◌, ◌<◌, ◌≤◌}
 use Prim.Native.String.{String}
 use native.Mathlib.Omega.{arith}
 use native.Mathlib.Nat.{suc-mul, zero-mul, add-zero, zero-add}
-use lib.ListN.{length, get_or, drop, length-append}
-use lib.Seq.{drop-cons, take_at, drop_at}
+use lib.ListN.{length, get_or, take, drop, length-append, take-append-drop, drop_of_length-le}
+use lib.Seq.{drop-cons, take_at, drop_at, drop-length}
 use lib.Dec.{ltb, eqb}
 use Rattle.std.specs.List.{All, concat, position, position_or_len, list_any}
 use Rattle.std.specs.Cmp.Lexicographic.{pointwise}
@@ -17,6 +17,7 @@ use Rattle.std.specs.Option.{MatchOption, option_eq}
 use Rattle.std.specs.Borrow.{Bor}
 use Rattle.std.specs.Prelude.{Option, Some, None}
 use Rattle.std.proofs.lemmas.List.{length-map}
+use Rattle.std.proofs.lemmas.Bool.Decides.{same_from_decides}
 use borrow.Author.Tests.{eqb-true, eq-eqb, lt-ltb}
 use Rattle.octets.specs.Bytes.{Bytes}
 use Rattle.octets.specs.Choice.{choose, both}
@@ -55,6 +56,12 @@ same_cons x y xs ys false e rec h =
     let z : false ≡ true = rw e at h in
     cc
 
+-- behind the end nothing differs
+pub ends_same : (xs ys : Bytes) → length xs ≡ length ys → drop (length xs) xs ≡ drop (length xs) ys
+ends_same xs ys l =
+    let past : length ys ≤ length xs = omega arith in
+    drop-length xs ∙ sym (drop_of_length-le ys past)
+
 pub same_true : (xs ys : Bytes) → same_bytes xs ys ≡ true → xs ≡ ys
 unfolding same_bytes
 same_true [] [] h = refl
@@ -71,6 +78,31 @@ same_false xs ys h = not_true_false (same_bytes xs ys) (λ t. h (same_true xs ys
 -- bytes that the test tells apart differ
 pub same_apart : (xs ys : Bytes) → same_bytes xs ys ≡ false → xs ≡ ys → ⊥
 same_apart xs ys e p = false≢true (sym e ∙ ap (same_bytes xs) (sym p) ∙ same_refl xs)
+
+-- bytes with their last n: these are apart, or those before them decide
+pub ends_apart : (n : ℕ) (xs ys : Bytes) → (drop (length xs - n) xs ≡ drop (length ys - n) ys → ⊥) → same_bytes xs ys ≡ false
+ends_apart n xs ys h = same_false xs ys (λ e. h (ap (λ (l : Bytes). drop (length l - n) l) e))
+
+pub fronts_decide : (n : ℕ) (xs ys : Bytes) → drop (length xs - n) xs ≡ drop (length ys - n) ys → same_bytes (take (length xs - n) xs) (take (length ys - n) ys) ≡ same_bytes xs ys
+fronts_decide n xs ys e =
+    same_from_decides
+    _
+    _ (
+      (λ t. sym (take-append-drop (length xs - n) xs) ∙ ap₂ ◌++◌ (same_true _ _ t) e ∙ take-append-drop (length ys - n) ys),
+      (λ p. ap (λ (l : Bytes). same_bytes (take (length l - n) l) (take (length ys - n) ys)) p ∙ same_refl _),
+    )
+    (same_decides xs ys)
+
+-- what `!=` of two arrays of bytes answers
+pub ne_true : (xs ys : Bytes) → not (pointwise eqb xs ys) ≡ true → xs ≡ ys → ⊥
+ne_true xs ys h e = false≢true (ap not (sym (same_refl ys) ∙ ap (λ (l : Bytes). same_bytes l ys) (sym e) ∙ sym (same_pointwise xs ys)) ∙ h)
+
+pub ne_false : (xs ys : Bytes) → not (pointwise eqb xs ys) ≡ false → xs ≡ ys
+ne_false xs ys h = same_true xs ys (sym (same_pointwise xs ys) ∙ by (pointwise eqb xs ys) h)
+  where
+    by : (t : Bool) → not t ≡ false → t ≡ true
+    by true e = refl
+    by false e = sym e
 
 -- a part is asked of xs twice, where xs has one: `==` of the answers passes
 same_chunks : {n : ℕ} {Is : Bytes → Type 0} (xs part : Bytes) (r s : Option (Bor Bytes)) → ((y : Bytes) → Is y → (n ≤ length xs) × (y ≡ part)) → MatchOption r (length xs < n) (λ y. Is y.now) → MatchOption s (length xs < n) (λ y. Is y.now) → option_eq (λ x y. pointwise eqb x.now y.now) r s ≡ true

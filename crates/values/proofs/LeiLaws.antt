@@ -1,5 +1,6 @@
 -- Laws of specs/Lei.antt: the running remainder is that of the whole number. Assumes nothing.
-use Prim.Native.Nat.{ℕ, ◌+◌, ◌*◌, ◌/◌, ◌%◌, ◌<◌, ◌≤◌}
+use Prim.Native.Char.{code}
+use Prim.Native.Nat.{ℕ, ◌+◌, ◌-◌, ◌*◌, ◌/◌, ◌%◌, ◌<◌, ◌≤◌}
 use mathlib.Core.Path.{◌≡◌, refl, sym, ap, ◌∙◌}
 use mathlib.Core.List.{[], ◌∷◌, ◌++◌}
 use mathlib.Core.Bool.{true, false}
@@ -12,7 +13,7 @@ use lib.Seq.{take-suc, take_all}
 use Rattle.octets.specs.Bytes.{Bytes}
 use Rattle.values.specs.Limits.{lei_modulus, lei_body, lei_check}
 use Rattle.values.specs.Run.{in_class, each_of, run_of}
-use Rattle.values.specs.declared.run.Class.TheVariants.{Digit, CapitalOrDigit}
+use Rattle.values.specs.declared.run.Class.TheVariants.{Digit, Capital, CapitalOrDigit}
 use Rattle.values.proofs.RunLaws.{each_at, run_each, each_joined}
 use Rattle.values.specs.Lei.{weight, number, grow, spell, next_remainder, running_remainder, PrefixRemainder, is_lei}
 
@@ -52,6 +53,15 @@ unfolding running_remainder
 running_next v k h =
     let more : take (k + 1) v ≡ take k v ++ (get_or v k 0 ∷ []) = rw (add-one k) (take-suc v k 0 h) in
     sym (ap (running_remainder 0) more ∙ running_append (take k v) (get_or v k 0 ∷ []) 0)
+
+-- a number read on by a digit, and by a capital
+pub grow_digit : (n b : ℕ) → b < code "A" → grow n b ≡ n * 10 + (b - code "0")
+unfolding grow weight number
+grow_digit n b l = rw (lt-leb (code "A") b l)
+
+pub grow_capital : (n b : ℕ) → in_class Capital b ≡ true → grow n b ≡ n * 100 + (10 + (b - code "A"))
+unfolding grow weight number
+grow_capital n b e = rw e
 
 -- the running remainder of all characters
 pub running_whole : (v : Bytes) (k : ℕ) → length v ≤ k → running_remainder 0 (take k v) ≡ spell 0 v % lei_modulus

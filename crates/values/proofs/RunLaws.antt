@@ -1,19 +1,23 @@
 -- Laws of specs/Run.antt: what classes and runs tell of each byte. Assumes nothing.
-use Prim.Native.Nat.{ℕ, zero, suc, ◌+◌, ◌-◌, ◌<◌, ◌≤◌}
+use Prim.Native.Nat.{ℕ, zero, suc, ◌+◌, ◌-◌, ◌*◌, ◌<◌, ◌≤◌}
+use Prim.Native.Char.{code}
 use mathlib.Core.Bool.{Bool, true, false, ◌&&◌, false≢true}
 use mathlib.Core.List.{[], ◌∷◌}
 use Rattle.std.specs.List.{list_all, fold}
+use Rattle.std.specs.Simd.{first_chunks}
+use Rattle.std.proofs.lemmas.List.{drop-drop}
+use Rattle.std.proofs.lemmas.List.Folds.{list_all-append}
 use mathlib.Core.Path.{◌≡◌, refl, sym, ap, ◌∙◌}
-use native.Mathlib.Nat.{zero-add, add-zero}
+use native.Mathlib.Nat.{zero-add, add-zero, zero-mul, suc-mul}
 use native.Mathlib.Omega.{arith}
-use borrow.Author.Tests.{leb-true, ltb-true, ltb-false}
+use borrow.Author.Tests.{lt-leb, leb-true, ltb-true, ltb-false}
 use lib.Dec.{leb, ltb}
-use lib.ListN.{length, get_or, take, drop, length-take, length-drop}
+use lib.ListN.{length, get_or, take, drop, length-take, length-drop, take-append-drop}
 use lib.Seq.{get_or-take, get_or-drop}
 use Rattle.octets.specs.Bytes.{Bytes}
 use Rattle.octets.specs.Choice.{both, either}
 use Rattle.octets.specs.Search.{all, all_from}
-use Rattle.octets.proofs.ChoiceLaws.{both_first, both_second}
+use Rattle.octets.proofs.ChoiceLaws.{both_first, both_second, both_none}
 use Rattle.octets.proofs.SearchLaws.{all_at, all_shift}
 use Rattle.values.specs.Run.{within, in_class, each_of, run_of}
 use Rattle.values.specs.declared.run.Class.{Class}
@@ -37,6 +41,17 @@ fold_from f (b ∷ v) false = fold_from f v false
 
 pub fold_bytes : (f : ℕ → Bool) (v : Bytes) → fold (λ t b. t && f b) true v ≡ list_all f v
 fold_bytes f v = fold_from f v true
+
+-- a test of each byte, block by block
+pub blocks_each : (f : ℕ → Bool) (n k : ℕ) (v : Bytes) → (list_all (list_all f) (first_chunks n k v) && list_all f (drop (k * n) v)) ≡ list_all f v
+blocks_each f n zero v = rw zero-mul refl
+blocks_each f n (suc k) v =
+    let place : drop (suc k * n) v ≡ drop (k * n) (drop n v) = ap (λ (i : ℕ). drop i v) (rw suc-mul (omega arith)) ∙ sym (drop-drop (k * n) n v) in
+    rw (place, by (list_all f (take n v)) (list_all (list_all f) (first_chunks n k (drop n v))) (list_all f (drop (k * n) (drop n v))), blocks_each f n k (drop n v), ← list_all-append f (take n v) (drop n v)) (ap (list_all f) (take-append-drop n v))
+  where
+    by : (p q r : Bool) → ((p && q) && r) ≡ (p && (q && r))
+    by true q r = refl
+    by false q r = refl
 
 -- a run, by its length and by each byte of it
 pub run_where : (least most : ℕ) (class : Class) (v : Bytes) → within least most (length v) ≡ true → list_all (in_class class) v ≡ run_of least most class v
@@ -74,9 +89,22 @@ module _ (least most : ℕ) (class : Class) (v : Bytes) (e : run_of least most c
   run_at k h = each_at class v k h run_each
 
 -- a test of one or the other
+either_first : (a b : Bool) → b ≡ false → either a b ≡ true → a ≡ true
+either_first true b f e = refl
+either_first false b f e = sym f ∙ e
+
 either_second : (a b : Bool) → b ≡ true → either a b ≡ true
 either_second true b e = refl
 either_second false b e = e
+
+-- a capital or digit below A is a digit, any other a capital
+pub digit_below : (b : ℕ) → b < code "A" → in_class CapitalOrDigit b ≡ true → code "0" ≤ b
+digit_below b l e = leb-true (code "0") b (both_first (leb (code "0") b) _ (rw (lt-leb (code "A") b l) at e))
+
+pub capital_from : (b : ℕ) → code "A" ≤ b → in_class CapitalOrDigit b ≡ true → in_class Capital b ≡ true
+capital_from b l e =
+    let above : leb b (code "9") ≡ false = lt-leb b (code "9") (omega arith) in
+    either_first (in_class Capital b) (in_class Digit b) (both_none (leb (code "0") b) _ above) e
 
 -- a test of a range passes where it passes at each number
 all_from_lem : (f : ℕ → Bool) (k d : ℕ) → ((i : ℕ) → i < d → f (k + i) ≡ true) → all_from f k d ≡ true

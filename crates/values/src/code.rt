@@ -3,7 +3,7 @@ ghost use Rattle.std.specs.Prelude.{◌≡◌};
 ghost use Rattle.octets.specs.Same.{same_bytes};
 ghost use Rattle.values.specs.Code.{is_true, is_false, is_truth, is_cleared, is_allocation, is_price_notation, is_spread_notation, is_asset_class};
 
-use octets::{one_of, same};
+use octets::{has_code, same};
 
 // The value is a code of four bytes.
 pub fn is_code(v: &[u8], code: &[u8; 4]) -> bool
@@ -36,7 +36,7 @@ pub fn is_truth(v: &[u8]) -> bool
 pub fn is_cleared(v: &[u8]) -> bool
     ensures { result ≡ is_cleared v.now }
 {
-    one_of(v, &[*b"Y", *b"N", *b"I"])
+    has_code(v, &[*b"Y", *b"N", *b"I"])
 }
 
 #[tactic(auto, unfolding(octets::specs::Text::text, crate::specs::Code::is_allocation))]
@@ -49,17 +49,17 @@ pub fn is_allocation(v: &[u8]) -> bool
 pub fn is_price_notation(v: &[u8]) -> bool
     ensures { result ≡ is_price_notation v.now }
 {
-    one_of(v, &[*b"1", *b"3"])
+    has_code(v, &[*b"1", *b"3"])
 }
 
 pub fn is_spread_notation(v: &[u8]) -> bool
     ensures { result ≡ is_spread_notation v.now }
 {
-    one_of(v, &[*b"1", *b"3", *b"4"])
+    has_code(v, &[*b"1", *b"3", *b"4"])
 }
 
 pub fn is_asset_class(v: &[u8]) -> bool
     ensures { result ≡ is_asset_class v.now }
 {
-    one_of(v, &[*b"CR", *b"IR", *b"FX", *b"EQ", *b"CO"])
+    has_code(v, &[*b"CR", *b"IR", *b"FX", *b"EQ", *b"CO"])
 }

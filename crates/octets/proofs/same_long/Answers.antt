@@ -1,7 +1,10 @@
 -- Bytes that differ at an end are not the same.
-use Rattle.std.proofs.Common.{sym, drop, take, length, ◌∙◌, ◌-◌}
-use Rattle.octets.proofs.SameLaws.{chunks_apart}
+use Rattle.std.proofs.Common.{sym, ap, drop, take, length, ◌∙◌, ◌-◌}
+use Rattle.octets.proofs.SameLaws.{chunks_apart, same_false}
 use Rattle.octets.proofs.same_long.Goals as goal
+
+pub returns-then-a-b : goal.returns-then-a-b
+returns-then-a-b c = sym (same_false _ _ (λ e. c.if-a-b.true (ap length e)))
 
 pub returns-then-ne : goal.returns-then-ne
 returns-then-ne c =

@@ -12,10 +12,10 @@ returns-then-is_empty-clause-value c = rw (sym c.is_empty.ensures ∙ c.if-is_em
 pub returns-in_default-clause-value : goal.returns-in_default-clause-value
 unfolding text
 returns-in_default-clause-value c =
-    pair_column c.args.a c.args.event.now None (sym c.is_empty.ensures ∙ c.if-is_empty.false) (sym c.in_default.is ∙ c.place_in.ensures)
+    pair_column c.args.a c.args.event.now None (sym c.is_empty.ensures ∙ c.if-is_empty.false) (sym c.in_default.is ∙ c.find_code.ensures)
 
 pub returns-clause-value : goal.returns-clause-value
 unfolding text
 returns-clause-value c =
     c.has_tick-2.ensures
-    ∙ pair_column c.args.a c.args.event.now (Some c.in-Some.column) (sym c.is_empty.ensures ∙ c.if-is_empty.false) (sym c.in-Some.is ∙ c.place_in.ensures)
+    ∙ pair_column c.args.a c.args.event.now (Some c.in-Some.column) (sym c.is_empty.ensures ∙ c.if-is_empty.false) (sym c.in-Some.is ∙ c.find_code.ensures)

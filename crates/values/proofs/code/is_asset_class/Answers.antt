@@ -7,4 +7,4 @@ use Rattle.values.proofs.code.is_asset_class.Goals as goal
 
 pub returns : goal.returns
 unfolding is_asset_class text
-returns c = c.one_of.ensures ∙ one_listed c.args.v.now asset_classes
+returns c = c.has_code.ensures ∙ one_listed c.args.v.now asset_classes

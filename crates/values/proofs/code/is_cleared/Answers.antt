@@ -7,4 +7,4 @@ use Rattle.values.proofs.code.is_cleared.Goals as goal
 
 pub returns : goal.returns
 unfolding is_cleared text
-returns c = c.one_of.ensures ∙ one_listed c.args.v.now cleared_codes
+returns c = c.has_code.ensures ∙ one_listed c.args.v.now cleared_codes

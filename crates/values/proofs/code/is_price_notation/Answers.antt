@@ -7,4 +7,4 @@ use Rattle.values.proofs.code.is_price_notation.Goals as goal
 
 pub returns : goal.returns
 unfolding is_price_notation text
-returns c = c.one_of.ensures ∙ one_listed c.args.v.now price_notations
+returns c = c.has_code.ensures ∙ one_listed c.args.v.now price_notations

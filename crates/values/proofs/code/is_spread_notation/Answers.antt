@@ -7,4 +7,4 @@ use Rattle.values.proofs.code.is_spread_notation.Goals as goal
 
 pub returns : goal.returns
 unfolding is_spread_notation text
-returns c = c.one_of.ensures ∙ one_listed c.args.v.now spread_notations
+returns c = c.has_code.ensures ∙ one_listed c.args.v.now spread_notations
