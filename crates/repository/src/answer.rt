@@ -17,11 +17,12 @@ const IDENTIFIER: u64 = 16_777_216;
 
 // Verdict, element, status and identifier: what the number carries, and a report shows.
 // Stays: four numbers, 0 for what is not told: the C interface has them so, and the number is made of them.
+// Stays: the element not beside the verdict: `pack` would read the two as one, and that read waits until each is written.
 #[derive(Clone, Copy, Debug, PartialEq, Eq)]
 pub struct Answer {
     pub verdict: u8,
-    pub element: u8,
     pub status: u8,
+    pub element: u8,
     pub identifier: u64,
 }
 
