@@ -1,5 +1,5 @@
 -- `repository::decide::decide` meets its contract. Assumes nothing.
-use Rattle.std.proofs.Common.{sym, ap, ◌∙◌, arith}
+use Rattle.std.proofs.Common.{sym, ap, ◌∙◌}
 use Rattle.std.proofs.lemmas.Result.{err_from_is_err_and}
 use borrow.Author.Tests.{ltb-true, ltb-false}
 use Rattle.rules.specs.Rules.{numbered}
