@@ -70,6 +70,7 @@ pub fn same_long(a: &[u8], b: &[u8]) -> bool
     same(a, b)
 }
 
+// Stays: any width, and a slice that may be longer, here and in one_of: an array of codes asks more of a caller.
 // The place of the first of `count` codes, each `width` bytes wide, that is the value; `count` where none is.
 #[tactic(auto, unfolding(crate::specs::Same::place_among))]
 pub fn place_in(v: &[u8], codes: &[u8], width: usize, count: usize) -> usize
@@ -119,7 +120,7 @@ pub fn copy(dst: &mut [u8], src: &[u8])
     requires { length src.now ≡ length dst.old }
     ensures { dst.new ≡ src.now }
 {
-    // Stays: by `copy_from_slice` the archive for C needs memmove, and not memcpy alone.
+    // Stays: by `copy_from_slice` the archive for C needs memmove from outside.
     for (i, b) in dst.iter_mut().enumerate() {
         *b = src[i];
     }
